@@ -1,0 +1,5 @@
+pub mod Delivered
+pub mod Limits
+pub mod Placed
+pub mod Renumbered
+pub mod Terms

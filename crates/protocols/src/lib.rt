@@ -1,0 +1,37 @@
+// Protocols: how a transaction's request is placed in a queue, by locking, by timestamp ordering, by precedence agreement, or by a bank of these.
+mod agreement;
+mod bank;
+mod delivered;
+mod limits;
+mod locking;
+mod ordering;
+mod protocol;
+mod question;
+mod served;
+mod standing;
+
+pub use agreement::Agreement;
+pub use agreement::AgreementProtocol;
+pub use agreement::agreement_takes_the_smallest_step;
+pub use bank::Bank;
+pub use bank::BankProtocol;
+pub use delivered::Delivered;
+pub use delivered::delivered_bank;
+pub use delivered::delivered_kind;
+pub use limits::LAST_TIMESTAMP;
+pub use limits::LONGEST_INTERVAL;
+pub use locking::Locking;
+pub use locking::LockingProtocol;
+pub use ordering::Ordering;
+pub use ordering::OrderingProtocol;
+pub use protocol::Protocol;
+pub use question::Kind;
+pub use question::KindDebug;
+pub use question::KindPartialEq;
+pub use question::Mode;
+pub use question::Placement;
+pub use question::PlacementDebug;
+pub use question::PlacementPartialEq;
+pub use question::Question;
+pub use served::served_kind;
+pub use standing::stands_at;
