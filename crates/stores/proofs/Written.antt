@@ -9,7 +9,7 @@ use lib.Seq.{getD-set-same, getD-set-other, take-set-le, drop-set-add}
 use Rattle.std.proofs.shelf.Lists.{take-more-set}
 use Rattle.stores.specs.declared.tape.Tape.{Tape}
 use Rattle.stores.specs.declared.tape.entry.Entry.{Entry}
-use Rattle.stores.specs.Tapes.{items, Newest, entry-values, written, held}
+use Rattle.stores.specs.Tapes.{items, Newest, entry-values, written, tape-values}
 
 module _ {R V : Type 0} (f : R → V) where
   pub length-written : (vs : List V) (es : List (Entry R)) → length (written f vs es) ≡ length vs
@@ -39,16 +39,16 @@ module _ {R V : Type 0} (f : R → V) where
       (record { within = omega arith; same = h .same; last = λ j past l. h .last (suc j) (omega arith) (omega arith) })
 
   -- a tape has an item for each of its opening entries
-  pub length-held : (t : Tape V R) → length (held f t) ≡ length (take (t .n) (t .row .now))
-  length-held t =
+  pub length-tape-values : (t : Tape V R) → length (tape-values f t) ≡ length (take (t .n) (t .row .now))
+  length-tape-values t =
       length-written (entry-values f (take (t .n) (t .row .now))) (take (t .count) (drop (t .n) (t .row .now)))
       ∙ length-map (take (t .n) (t .row .now)) (λ e. f (e .value))
 
   -- an entry put behind the others is the newest of its item
-  pub held-push : (row : List (Entry R)) (n count : ℕ) (e : Entry R) → n + count < length row
+  pub tape-values-push : (row : List (Entry R)) (n count : ℕ) (e : Entry R) → n + count < length row
       → written f (entry-values f (take n (set row (n + count) e))) (take (count + 1) (drop n (set row (n + count) e)))
       ≡ set (written f (entry-values f (take n row)) (take count (drop n row))) (e .item) (f (e .value))
-  held-push row n count e free =
+  tape-values-push row n count e free =
       let after : n ≤ n + count = omega arith in
       let unused : count < length (drop n row) = simp length-drop (omega arith) in
       rw (take-set-le n row (n + count) e after, drop-set-add n row count e, take-more-set (drop n row) count e unused)

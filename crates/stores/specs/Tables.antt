@@ -10,8 +10,8 @@ use Rattle.stores.specs.declared.table.Table.{Table}
 
 module _ {R V : Type 0} where
   -- the value of each item of a table
-  abbrev pub shown : (R → V) → Table V R → List V
-  shown value-of t = map value-of (t .row .now)
+  abbrev pub table-values : (R → V) → Table V R → List V
+  table-values value-of t = map value-of (t .row .now)
 
   -- a served write puts x at place i of the row, and a refused one leaves the row
   abbrev pub Rewritten : Table V R → ℕ → R → Result (Unit {0}) Refusal → Table V R → Type 0

@@ -63,8 +63,8 @@ module _ {R : Type 0} where
     written values (e ∷ es) = written (set values (e .item) (value-of (e .value))) es
 
     -- the value of each item of a tape
-    abbrev pub held : Tape V R → List V
-    held t = written (entry-values (take (t .n) (t .row .now))) (take (t .count) (drop (t .n) (t .row .now)))
+    abbrev pub tape-values : Tape V R → List V
+    tape-values t = written (entry-values (take (t .n) (t .row .now))) (take (t .count) (drop (t .n) (t .row .now)))
 
   -- the entries of a tape that are not used yet
   abbrev pub unused : {V : Type 0} → Tape V R → ℕ
@@ -73,7 +73,7 @@ module _ {R : Type 0} where
   -- a tape of n items, just opened over a row
   pub record Opened {V : Type 0} (value-of : R → V) (n : ℕ) (row : List (Entry R)) (t : Tape V R) : Type 0 where
     pub opens : Opens n row
-    pub values : held value-of t ≡ entry-values value-of (take n row)
+    pub values : tape-values value-of t ≡ entry-values value-of (take n row)
     pub room : unused t ≡ length row - n
     pub same : t .row .now ≡ row
 

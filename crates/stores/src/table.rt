@@ -5,7 +5,7 @@ ghost use Prim.Native.Nat.{_<_};
 ghost use denote.Ref.{now, name};
 ghost use lib.ListN.{length, getD, set};
 ghost use Rattle.stores.specs.Answers.{WriteOf};
-ghost use Rattle.stores.specs.Tables.{shown, Rewritten};
+ghost use Rattle.stores.specs.Tables.{table-values, Rewritten};
 use crate::store::Store;
 use refusals::Reason;
 use refusals::Refusal;
@@ -25,7 +25,7 @@ impl<'a, V: Value> Table<'a, V> {
     }
 
     fn items(&self) -> usize
-        ensures value { λ r. ⌜ r ≡ length (shown (V·Value .unrowed) (now (self .entry))) ⌝ }
+        ensures value { λ r. ⌜ r ≡ length (table-values (V·Value .unrowed) (now (self .entry))) ⌝ }
         ensures len { λ r. ⌜ r ≡ length (now (now (self .entry) .row)) ⌝ }
     {
         self.row.len()
@@ -33,7 +33,7 @@ impl<'a, V: Value> Table<'a, V> {
 
     fn value(&self, item: usize) -> V
         requires { ⌜ item < length (now (now self .row)) ⌝ }
-        ensures { λ r. ⌜ ((d : V) → r ≡ getD (shown (V·Value .unrowed) (now (self .entry))) item d) ⌝ }
+        ensures { λ r. ⌜ ((d : V) → r ≡ getD (table-values (V·Value .unrowed) (now (self .entry))) item d) ⌝ }
     {
         let row = &*self.row;
         V::from_row(row[item])
@@ -41,7 +41,7 @@ impl<'a, V: Value> Table<'a, V> {
 
     fn put(&mut self, item: usize, value: V)
         requires { ⌜ item < length (now (now self .row)) ⌝ }
-        ensures values { λ _. ⌜ shown (V·Value .unrowed) (now (self .exit)) ≡ set (shown (V·Value .unrowed) (now (self .entry))) item value ⌝ }
+        ensures values { λ _. ⌜ table-values (V·Value .unrowed) (now (self .exit)) ≡ set (table-values (V·Value .unrowed) (now (self .entry))) item value ⌝ }
         ensures row { λ _. ⌜ now (now (self .exit) .row) ≡ set (now (now (self .entry) .row)) item (V·Value .rowed value) ⌝ }
         ensures lent { λ _. ⌜ name (now (self .exit) .row) ≡ name (now (self .entry) .row) ⌝ }
     {
@@ -52,7 +52,7 @@ impl<'a, V: Value> Table<'a, V> {
 pub impl<'a, V: Value> Store for Table<'a, V> as TableStore {
     type Value = V;
 
-    ghost values = { shown (V·Value .unrowed) };
+    ghost values = { table-values (V·Value .unrowed) };
 
     ghost space = { λ _. 65535 };
 
@@ -74,7 +74,7 @@ pub impl<'a, V: Value> Store for Table<'a, V> as TableStore {
     }
 
     fn write(&mut self, item: usize, value: V) -> Result<(), Refusal>
-        ensures answer { λ r. ⌜ WriteOf (shown (V·Value .unrowed) (now (self .entry))) 65535 item value tt r (shown (V·Value .unrowed) (now (self .exit))) 65535 ⌝ }
+        ensures answer { λ r. ⌜ WriteOf (table-values (V·Value .unrowed) (now (self .entry))) 65535 item value tt r (table-values (V·Value .unrowed) (now (self .exit))) 65535 ⌝ }
         ensures loans { λ _. ⌜ name (now (self .exit) .row) ∷ [] ≡ name (now (self .entry) .row) ∷ [] ⌝ }
         ensures row { λ r. ⌜ Rewritten (now (self .entry)) item (V·Value .rowed value) r (now (self .exit)) ⌝ }
     {

@@ -13,7 +13,7 @@ ghost use denote.Ref.{now, name};
 ghost use lib.ListN.{length, getD, take, drop, set};
 ghost use Rattle.std.specs.Results.{Cases};
 ghost use Rattle.stores.specs.Answers.{WriteOf};
-ghost use Rattle.stores.specs.Tapes.{Appended, Opened, Recorded, RefusedRow, held, unused};
+ghost use Rattle.stores.specs.Tapes.{Appended, Opened, Recorded, RefusedRow, tape-values, unused};
 use crate::store::Store;
 use crate::tape::cut::cut;
 use crate::tape::entry::Entry;
@@ -79,15 +79,15 @@ impl<'a, V: Value> Tape<'a, V> {
     }
 
     fn items(&self) -> usize
-        ensures value { λ r. ⌜ r ≡ length (held (V·Value .unrowed) (now (self .entry))) ⌝ }
+        ensures value { λ r. ⌜ r ≡ length (tape-values (V·Value .unrowed) (now (self .entry))) ⌝ }
         ensures bound { λ r. ⌜ r ≤ 65535 ⌝ }
     {
         self.opening().len()
     }
 
     fn value(&self, item: u16) -> V
-        requires { ⌜ item < length (held (V·Value .unrowed) (now self)) ⌝ }
-        ensures { λ r. ⌜ ((d : V) → r ≡ getD (held (V·Value .unrowed) (now (self .entry))) item d) ⌝ }
+        requires { ⌜ item < length (tape-values (V·Value .unrowed) (now self)) ⌝ }
+        ensures { λ r. ⌜ ((d : V) → r ≡ getD (tape-values (V·Value .unrowed) (now (self .entry))) item d) ⌝ }
     {
         value_at(self.opening(), self.log(), item)
     }
@@ -95,7 +95,7 @@ impl<'a, V: Value> Tape<'a, V> {
     // Adds an entry behind the others.
     fn push(&mut self, entry: Entry<V::Row>)
         requires { ⌜ 0 < unused (now self) ⌝ }
-        ensures values { λ _. ⌜ held (V·Value .unrowed) (now (self .exit)) ≡ set (held (V·Value .unrowed) (now (self .entry))) (entry .item) (V·Value .unrowed (entry .value)) ⌝ }
+        ensures values { λ _. ⌜ tape-values (V·Value .unrowed) (now (self .exit)) ≡ set (tape-values (V·Value .unrowed) (now (self .entry))) (entry .item) (V·Value .unrowed (entry .value)) ⌝ }
         ensures row { λ _. ⌜ Appended (now (self .entry)) entry (now (self .exit)) ⌝ }
         ensures room { λ _. ⌜ (unused (now (self .exit)) ≤ unused (now (self .entry))) × (unused (now (self .entry)) ≤ unused (now (self .exit)) + 1) ⌝ }
         ensures lent { λ _. ⌜ name (now (self .exit) .row) ≡ name (now (self .entry) .row) ⌝ }
@@ -109,7 +109,7 @@ impl<'a, V: Value> Tape<'a, V> {
 pub impl<'a, V: Value> Store for Tape<'a, V> as TapeStore {
     type Value = V;
 
-    ghost values = { held (V·Value .unrowed) };
+    ghost values = { tape-values (V·Value .unrowed) };
 
     ghost space = { unused };
 
@@ -132,7 +132,7 @@ pub impl<'a, V: Value> Store for Tape<'a, V> as TapeStore {
     }
 
     fn write(&mut self, item: usize, value: V) -> Result<(), Refusal>
-        ensures answer { λ r. ⌜ WriteOf (held (V·Value .unrowed) (now (self .entry))) (unused (now (self .entry))) item value tt r (held (V·Value .unrowed) (now (self .exit))) (unused (now (self .exit))) ⌝ }
+        ensures answer { λ r. ⌜ WriteOf (tape-values (V·Value .unrowed) (now (self .entry))) (unused (now (self .entry))) item value tt r (tape-values (V·Value .unrowed) (now (self .exit))) (unused (now (self .exit))) ⌝ }
         ensures loans { λ _. ⌜ name (now (self .exit) .row) ∷ [] ≡ name (now (self .entry) .row) ∷ [] ⌝ }
         ensures row { λ r. ⌜ Recorded (now (self .entry)) item (V·Value .rowed value) r (now (self .exit)) ⌝ }
     {
