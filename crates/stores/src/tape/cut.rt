@@ -3,7 +3,7 @@ ghost use mathlib.Core.Path.{_≡_};
 ghost use Prim.Native.Nat.{_-_, min};
 ghost use lib.ListN.{length, take, drop};
 
-pub fn cut<T>(row: &[T], at: usize) -> (&[T], &[T])
+pub(super) fn cut<T>(row: &[T], at: usize) -> (&[T], &[T])
     ensures front { λ r. ⌜ now (r .0) ≡ take at (now (row .entry)) ⌝ }
     ensures back { λ r. ⌜ now (r .1) ≡ drop at (now (row .entry)) ⌝ }
     ensures front_len { λ r. ⌜ length (now (r .0)) ≡ min at (length (now (row .entry))) ⌝ }

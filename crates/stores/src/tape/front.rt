@@ -10,7 +10,7 @@ use refusals::Reason;
 use refusals::Refusal;
 
 // A room is at most this, so a tape need not be longer.
-pub const LONGEST_ROW: usize = 65_535;
+pub(super) const LONGEST_ROW: usize = 65_535;
 
 fn first_wrong<R>(row: &[Entry<R>], n: usize) -> Option<usize>
     requires { ⌜ n ≤ length (now row) ⌝ }
@@ -24,7 +24,7 @@ fn first_wrong<R>(row: &[Entry<R>], n: usize) -> Option<usize>
     None
 }
 
-pub fn opens<R>(row: &[Entry<R>], n: usize) -> Result<(), Refusal>
+pub(super) fn opens<R>(row: &[Entry<R>], n: usize) -> Result<(), Refusal>
     ensures { λ r. ⌜ RowAnswer n (now (row .entry)) r ⌝ }
 {
     if row.len() < n || row.len() > LONGEST_ROW {

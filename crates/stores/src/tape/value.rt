@@ -7,7 +7,7 @@ use crate::tape::entry::Entry;
 use crate::tape::newest::newest;
 use values::Value;
 
-pub fn value_at<V: Value>(opening: &[Entry<V::Row>], log: &[Entry<V::Row>], item: u16) -> V
+pub(super) fn value_at<V: Value>(opening: &[Entry<V::Row>], log: &[Entry<V::Row>], item: u16) -> V
     requires { ⌜ item < length (now opening) ⌝ }
     ensures { λ r. ⌜ ((d : V) → r ≡ getD (written (V·Value .unrowed) (entry-values (V·Value .unrowed) (now (opening .entry))) (now (log .entry))) item d) ⌝ }
 {
