@@ -1,5 +1,4 @@
 // A bank of two protocols is a protocol: the first one's numbers, then the second one's, as far as 255.
-ghost use mathlib.Core.Path.{_≡_};
 ghost use mathlib.Core.Bool.{cond};
 ghost use Prim.Native.Nat.{_+_, _-_, min};
 ghost use lib.Dec.{ltb};

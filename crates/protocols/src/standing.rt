@@ -1,6 +1,6 @@
 // Where a request stands in its queue, by any protocol.
 ghost use mathlib.Core.Path.{_≡_};
-ghost use Prim.Native.Nat.{_<_, _≤_};
+ghost use Prim.Native.Nat.{_<_};
 ghost use Rattle.std.specs.Options.{Cases};
 ghost use Rattle.protocols.specs.declared.question.Kind.the-variants.{Lock};
 ghost use Rattle.protocols.specs.Limits.{Within};

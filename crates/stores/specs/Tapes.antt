@@ -1,6 +1,6 @@
 -- What a tape holds, by its row of entries: the first n are the opening values of items 0 to n - 1, and the entries behind them were written later, oldest first.
 use mathlib.Core.Path.{_≡_}
-use mathlib.Core.Logic.{_≢_, _⊎_}
+use mathlib.Core.Logic.{_≢_}
 use mathlib.Core.List.{List, [], _∷_, map}
 use Prim.Native.Nat.{ℕ, _+_, _-_, _≤_, _<_, min}
 use lib.ListN.{length, getD, set, take, drop}

@@ -1,6 +1,6 @@
 // The table: a lent row of n values. Its room is always 65,535.
 ghost use mathlib.Core.Path.{_≡_};
-ghost use mathlib.Core.List.{map, _∷_, []};
+ghost use mathlib.Core.List.{_∷_, []};
 ghost use Prim.Native.Nat.{_<_};
 ghost use denote.Ref.{now, name};
 ghost use lib.ListN.{length, getD, set};

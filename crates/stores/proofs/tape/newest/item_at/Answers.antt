@@ -1,4 +1,3 @@
-use borrow.Author.Needs.{needs}
 use mathlib.Core.Path.{sym}
 use Rattle.std.proofs.shelf.Lists.{getD-map}
 use Rattle.stores.proofs.tape.newest.item_at.Needs as need
