@@ -1,4 +1,4 @@
-// The delivered bank: 0 is locking, 1 is ordering, 2 is agreement.
+// The bank that comes with the board: 0 is locking, 1 is ordering, 2 is agreement.
 ghost use mathlib.Core.Path.{_≡_};
 ghost use Rattle.protocols.specs.Delivered.{delivered-bank, delivered-kind};
 use crate::agreement::Agreement;

@@ -19,7 +19,6 @@ pub use delivered::Delivered;
 pub use delivered::delivered_bank;
 pub use delivered::delivered_kind;
 pub use limits::LAST_TIMESTAMP;
-pub use limits::LONGEST_INTERVAL;
 pub use locking::Locking;
 pub use locking::LockingProtocol;
 pub use ordering::Ordering;

@@ -13,6 +13,7 @@ pub trait Store {
     // the value of each item, in item order
     ghost values: { Self → List Self·Value };
 
+    // the room
     ghost space: { Self → ℕ };
 
     // the rows that the store has on loan, so that who lent one knows that it comes back as the store left it

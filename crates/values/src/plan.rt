@@ -2,6 +2,7 @@
 ghost use mathlib.Core.Path.{_≡_};
 ghost use lib.Ieee.{binary64, toBits, ofBits};
 ghost use Rattle.values.specs.Rows.{plan-row, plan-of-row};
+ghost use Rattle.values.specs.Text.{plan-text, plan-row-text};
 use crate::value::Value;
 use std::fmt;
 use std::num;
@@ -81,6 +82,8 @@ pub impl Value for PlanRecord as PlanValue {
 }
 
 pub impl fmt::Display for PlanRecord as PlanDisplay {
+    ghost shown = { plan-text };
+
     fn fmt<W: fmt::Write>(&self, f: &mut fmt::Formatter<W>) -> fmt::Result {
         match *self {
             PlanRecord::Empty => write!(f, "empty"),
@@ -92,12 +95,14 @@ pub impl fmt::Display for PlanRecord as PlanDisplay {
                 station,
                 start,
                 end,
-            } => write!(f, "booking of station {station} from {start} s to {end} s"),
+            } => write!(f, "booking of station {station}, seconds {start} to {end}"),
         }
     }
 }
 
 pub impl fmt::Display for PlanRow as PlanRowDisplay {
+    ghost shown = { plan-row-text };
+
     fn fmt<W: fmt::Write>(&self, f: &mut fmt::Formatter<W>) -> fmt::Result {
         match *self {
             PlanRow::Empty => write!(f, "empty"),
