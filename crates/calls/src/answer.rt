@@ -11,6 +11,7 @@ pub const LIVE_LIMIT: usize = 16;
 // transaction numbers
 pub type Numbers = FixedList<u16, LIVE_LIMIT>;
 
+#[derive(Clone, Copy)]
 pub enum Answer<V> {
     // the number of the transaction
     Begun(u16),
@@ -28,5 +29,3 @@ pub enum Answer<V> {
     Owing(Numbers),
     Refused(Refusal),
 }
-
-impl<V: Copy> Copy for Answer<V> {}

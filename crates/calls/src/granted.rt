@@ -15,11 +15,10 @@ pub enum Schedule {
     PreScheduled,
 }
 
+#[derive(Clone, Copy)]
 pub struct Granted<V> {
     pub number: u16,
     pub lock: GrantedLock,
     pub schedule: Schedule,
     pub value: V,
 }
-
-impl<V: Copy> Copy for Granted<V> {}

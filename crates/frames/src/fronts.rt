@@ -2,12 +2,11 @@
 ghost use Rattle.frames.specs.Fronts.{EndOf, FieldOf, one};
 ghost use Rattle.frames.specs.Widths.{four, two};
 
+#[derive(Clone, Copy)]
 pub struct Front<'a, T> {
     pub value: T,
     pub rest: &'a [u8],
 }
-
-impl<T: Copy> Copy for Front<'_, T> {}
 
 pub fn byte(bytes: &[u8]) -> Option<Front<'_, u8>>
     ensures { FieldOf 1 one bytes.now result }

@@ -9,8 +9,8 @@ use crate::question::{Placement, Question};
 
 // What the protocol answers, with what its terms say of the bar.
 fn placement<P: Protocol>(protocol: &P, question: Question) -> Placement
-    ensures value { result ≡ placed protocol.now question }
-    ensures above { question.number < count protocol.now → Within question → (kinds protocol.now question.number ≢ Lock) → Above question.bar question.timestamp result }
+    ensures value { result ≡ P.placed protocol.now question }
+    ensures above { question.number < P.count protocol.now → Within question → (P.kinds protocol.now question.number ≢ Lock) → Above question.bar question.timestamp result }
 {
     protocol.place(question)
 }
@@ -18,8 +18,8 @@ fn placement<P: Protocol>(protocol: &P, question: Question) -> Placement
 // The place, in a queue whose largest place ever was `high`, or none where the request is turned away.
 // Only kind lock can stand at or below the bar.
 pub fn stands_at<P: Protocol>(protocol: &P, question: Question, high: u32) -> Option<u32>
-    ensures place { result ≡ stands (placed protocol.now question) question.timestamp high }
-    ensures above { question.number < count protocol.now → Within question → (kinds protocol.now question.number ≢ Lock) → IfSome result (λ place. question.bar < place) }
+    ensures place { result ≡ stands (P.placed protocol.now question) question.timestamp high }
+    ensures above { question.number < P.count protocol.now → Within question → (P.kinds protocol.now question.number ≢ Lock) → IfSome result (λ place. question.bar < place) }
 {
     match placement(protocol, question) {
         Placement::Own => Some(question.timestamp),

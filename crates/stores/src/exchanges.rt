@@ -6,8 +6,8 @@ use crate::store::Store;
 use refusals::Refusal;
 
 pub fn exchange<S: Store>(store: &mut S, item: usize, value: S::Value) -> Result<S::Value, Refusal>
-    ensures answer { (d : S.Value) → WriteOf (values store.old) (space store.old) item value (slice_index_or (values store.old) item d) result (values store.new) (space store.new) }
-    ensures loans { loans store.new ≡ loans store.old }
+    ensures answer { (d : S.Value) → WriteOf (S.values store.old) (S.space store.old) item value (slice_index_or (S.values store.old) item d) result (S.values store.new) (S.space store.new) }
+    ensures loans { S.loans store.new ≡ S.loans store.old }
 {
     let old = store.read(item)?;
     store.write(item, value)?;
