@@ -3,6 +3,6 @@ use Rattle.hexlines.proofs.decoding.decode.Goals as goal
 
 pub returns : goal.returns
 returns c = record {
-  value = c.bytes-spelled.ensures;
-  back = back c.args.line.now c.bytes-spelled.result c.bytes-spelled.ensures;
+  value = c.bytes_spelled.ensures;
+  back = back c.args.line.now c.bytes_spelled.result c.bytes_spelled.ensures;
 }

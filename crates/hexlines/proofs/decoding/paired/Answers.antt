@@ -21,7 +21,7 @@ loop-i-preserved c =
     let added = c.push.ensures.added (omega arith) in (
       pairs_more numbers c.loop-i.i (omega arith) bytes (held c.push.new.self) c.pair.result c.loop-i.invariant.0 c.pair.ensures added.1,
       omega (arith, added.2),
-      rw added.1 (bytes_push bytes c.pair.result c.loop-i.invariant.2 c.pair.type-inv),
+      rw added.1 (bytes_push bytes c.pair.result c.loop-i.invariant.2 c.pair.type_inv),
     )
 
 pub returns : goal.returns

@@ -8,9 +8,9 @@ returns-then-input-eq0 c = search (rules, nil_from_length)
 
 pub returns : goal.returns
 returns c =
-    let cut = first_line c.args.input.now c.line-end.result c.line-end.ensures (omega arith) in
-    let front = c.split-at.ensures.front in
-    let back = c.split-at.ensures.back in
-    let left : length c.behind-feed.result.now ≡ length c.split-at.result.1.now - 1 =
-    ap length c.behind-feed.ensures ∙ length-drop 1 c.split-at.result.1.now in
-    (cc, omega (arith, c.split-at.ensures.back_len))
+    let cut = first_line c.args.input.now c.line_end.result c.line_end.ensures (omega arith) in
+    let front = c.split_at.ensures.front in
+    let back = c.split_at.ensures.back in
+    let left : length c.behind_feed.result.now ≡ length c.split_at.result.1.now - 1 =
+    ap length c.behind_feed.ensures ∙ length-drop 1 c.split_at.result.1.now in
+    (cc, omega (arith, c.split_at.ensures.back_len))
