@@ -11,7 +11,7 @@ loop-number-preserved c =
     let numbers = c.args.numbers.now in
     let i = c.loop-number.number-index in
     let head = c.args.kind ∷ length numbers ∷ [] in
-    let spelt = c.to-be-bytes.ensures in
+    let spelt = c.to_be_bytes.ensures in
     let long = ap length spelt in
     let added = c.extend.ensures.whole (omega (arith, c.loop-number.invariant.1, c.loop-number-test.true, c.requires)) in
     let before = c.loop-number.invariant.0 in
@@ -27,5 +27,5 @@ returns c =
     let whole = take_all c.loop-number.number-index numbers c.loop-number-test.false in
     record {
       value = c.loop-number.invariant.0 ∙ ap (λ s. c.args.kind ∷ length numbers ∷ flat_map two s) whole;
-      small = All-from_get_or (λ n. n < 2 ^ 16) numbers 0 (λ k h. (c.type-inv.numbers k).fits);
+      small = All-from_get_or (λ n. n < 2 ^ 16) numbers 0 (λ k h. (c.type_inv.numbers k).fits);
     }

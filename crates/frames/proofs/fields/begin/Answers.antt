@@ -7,10 +7,10 @@ use Rattle.frames.specs.Borrowed.{FirstBadMode}
 use Rattle.frames.specs.Reading.{wrong_length, bad_mode}
 use Rattle.frames.proofs.fields.begin.Goals as goal
 
-pub returns-in-default : goal.returns-in-default
-returns-in-default c =
+pub returns-in_default : goal.returns-in_default
+returns-in_default c =
     let count : length c.args.fields.now + 1 ≡ suc (length c.args.fields.now) = omega arith in
-    wrong_length Begin c.args.fields.now refl c.in-default.ensures (c.at.ensures ∙ ap (refusal_at WrongLength) count)
+    wrong_length Begin c.args.fields.now refl c.in_default.ensures (c.at.ensures ∙ ap (refusal_at WrongLength) count)
 
 pub returns-in-Ok : goal.returns-in-Ok
 returns-in-Ok c =

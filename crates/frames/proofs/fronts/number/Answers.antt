@@ -6,10 +6,10 @@ use Rattle.frames.proofs.fronts.number.Goals as goal
 
 pub returns : goal.returns
 returns c =
-    let front = c.split-at.result.0.now in
-    let cut = c.split-at.ensures.by_index in
-    let a : get_or front 0 0 < 256 = omega (arith, c.type-inv.bytes 0, cut.1 0 0 (omega arith)) in
-    let b : get_or front 1 0 < 256 = omega (arith, c.type-inv.bytes 1, cut.1 1 0 (omega arith)) in
+    let front = c.split_at.result.0.now in
+    let cut = c.split_at.ensures.by_index in
+    let a : get_or front 0 0 < 256 = omega (arith, c.type_inv.bytes 0, cut.1 0 0 (omega arith)) in
+    let b : get_or front 1 0 < 256 = omega (arith, c.type_inv.bytes 1, cut.1 1 0 (omega arith)) in
     let spelt = two_spells (get_or front 0 0) (get_or front 1 0) a b in
-    let same : front ≡ two c.from-be-bytes.result = apart_2 front c.split-at.ensures.front-len ∙ sym spelt ∙ ap two (sym c.from-be-bytes.ensures) in
-    (cut.0 ∙ ap (λ s. s ++ c.split-at.result.1.now) same, c.from-be-bytes.type-inv)
+    let same : front ≡ two c.from_be_bytes.result = apart_2 front c.split_at.ensures.front_len ∙ sym spelt ∙ ap two (sym c.from_be_bytes.ensures) in
+    (cut.0 ∙ ap (λ s. s ++ c.split_at.result.1.now) same, c.from_be_bytes.type_inv)

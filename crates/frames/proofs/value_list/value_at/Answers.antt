@@ -6,5 +6,5 @@ pub returns : goal.returns
 returns c =
     let bytes = c.args.bytes.now in
     let within : c.args.i < length bytes / 4 = c.requires in
-    let carried = to_z-of_z {w = w32} {z = c.number_of_bytes.result} (record { sfits = c.number_of_bytes.type-inv }) in
+    let carried = to_z-of_z {w = w32} {z = c.number_of_bytes.result} (record { sfits = c.number_of_bytes.type_inv }) in
     λ other. value_at bytes c.args.i within other ∙ sym c.number_of_bytes.ensures.value ∙ sym carried

@@ -5,5 +5,5 @@ use Rattle.frames.proofs.accesses.Accesses.of.Goals as goal
 pub returns-in-None : goal.returns-in-None
 returns-in-None c =
     let bytes = c.args.bytes.now in
-    let small : Bytes bytes = λ k. (c.type-inv.bytes k).fits in
+    let small : Bytes bytes = λ k. (c.type_inv.bytes k).fits in
     (accesses_spell bytes c.requires c.in-None.ensures, accesses_fit bytes small)
