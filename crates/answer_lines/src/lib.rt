@@ -1,4 +1,6 @@
 // Answers as the lines that are printed.
+#![tactic(auto)]
+
 mod codes;
 mod writing;
 

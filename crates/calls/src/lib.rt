@@ -1,4 +1,6 @@
 // What the nine calls of a board are asked with and what they answer.
+#![tactic(auto)]
+
 mod access;
 mod answer;
 mod asked;

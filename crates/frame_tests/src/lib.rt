@@ -1,3 +1,5 @@
+#![tactic(auto)]
+
 // Examples on either side of each rule of lines, frames and answers.
 #[cfg(test)]
 mod answers_test;

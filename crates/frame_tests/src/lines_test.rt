@@ -4,21 +4,21 @@ use std::test::Fail;
 #[test]
 fn a_line_feed_ends_a_line(rt: HostRuntime) -> Result<(), Fail> {
     let split = first_line(b"08\n\n09").ok_or("no line")?;
-    assert!(rt; split.line == b"08");
-    assert!(rt; split.rest == b"\n09");
+    assert!(rt; split.line == b"08".as_slice());
+    assert!(rt; split.rest == b"\n09".as_slice());
     let split = first_line(split.rest).ok_or("no empty line")?;
-    assert!(rt; split.line == b"");
-    assert!(rt; split.rest == b"09");
+    assert!(rt; split.line == b"".as_slice());
+    assert!(rt; split.rest == b"09".as_slice());
     Ok(())
 }
 
 #[test]
 fn the_end_of_the_input_ends_a_line_begun(rt: HostRuntime) -> Result<(), Fail> {
     let split = first_line(b"09").ok_or("no line")?;
-    assert!(rt; split.line == b"09");
+    assert!(rt; split.line == b"09".as_slice());
     assert!(rt; first_line(split.rest).is_none());
     let split = first_line(b"09\n").ok_or("no line")?;
-    assert!(rt; split.line == b"09");
+    assert!(rt; split.line == b"09".as_slice());
     assert!(rt; first_line(split.rest).is_none());
     Ok(())
 }
@@ -26,7 +26,7 @@ fn the_end_of_the_input_ends_a_line_begun(rt: HostRuntime) -> Result<(), Fail> {
 #[test]
 fn a_carriage_return_stays_in_the_line(rt: HostRuntime) -> Result<(), Fail> {
     let split = first_line(b"08\r\n09").ok_or("no line")?;
-    assert!(rt; split.line == b"08\r");
+    assert!(rt; split.line == b"08\r".as_slice());
     Ok(())
 }
 

@@ -1,4 +1,6 @@
 // Reads lines of hexadecimal from standard input and says of each which call it is, or why it is refused and what is answered.
+#![tactic(auto)]
+
 use answer_lines::write_answer;
 use calls::{Access, Answer};
 use frames::{Accesses, Frame, Values, read_line};

@@ -1,4 +1,6 @@
 // Frames: a line read as a call, with its lists borrowed from the decoded line.
+#![tactic(auto)]
+
 mod accesses;
 mod fields;
 mod frame;

@@ -1,4 +1,6 @@
 // Lines of hexadecimal: an input split into lines, a line decoded into bytes, bytes encoded as a line.
+#![tactic(auto)]
+
 mod decoding;
 mod digits;
 mod encoding;

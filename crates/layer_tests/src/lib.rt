@@ -1,3 +1,5 @@
+#![tactic(auto)]
+
 // Examples on either side of each rule of the lists, values, stores and protocols.
 #[cfg(test)]
 mod lent_test;

@@ -1,4 +1,6 @@
 // Protocols: how a transaction's request is placed in a queue, by locking, by timestamp ordering, by precedence agreement, or by a bank of these.
+#![tactic(auto)]
+
 mod agreement;
 mod bank;
 mod delivered;

@@ -1,4 +1,6 @@
 // Why a call was refused: the layer that refused it, the number of the question that was answered no, and the place that the question is about.
+#![tactic(auto)]
+
 ghost use Rattle.std.specs.Prelude.{◌≡◌, Some};
 ghost use Rattle.refusals.specs.Numbers.{layer_number, reason_layer, reason_number, refusal_at};
 ghost use Rattle.refusals.specs.Text.{refusal_text};

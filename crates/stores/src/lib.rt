@@ -1,4 +1,6 @@
 // Stores: what keeps the values of the items, and the two that are delivered.
+#![tactic(auto)]
+
 mod exchanges;
 mod store;
 mod table;

@@ -1,4 +1,6 @@
 // An orbit feed and a ground station record on a tape of plan records, and every step is printed.
+#![tactic(auto)]
+
 use std::io;
 use stores::{Entry, Store, Table, Tape, exchange};
 use values::{PlanRecord, PlanRow};

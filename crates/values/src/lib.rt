@@ -1,4 +1,6 @@
 // Kinds of value: what a store can keep, and the row form in which a lent row keeps it.
+#![tactic(auto)]
+
 mod number;
 mod plan;
 mod value;
