@@ -1,6 +1,6 @@
 -- Laws of the table of answers: its bytes are bytes, and no two answers have the same ones.
 use Rattle.std.proofs.Common.{◌≡◌, ℕ, ◌+◌, ◌*◌, ◌/◌, ◌%◌, ◌^◌, ◌<◌, min, cond, eqb, List, [], ◌∷◌, get_or, drop, ℤ, refl, ap, ◌∙◌, arith, w32, of_z}
-use Rattle.std.specs.List.{flat_map, AllByRecursion as All}
+use Rattle.std.specs.List.{flat_map, AllByRecursion}
 use Rattle.refusals.specs.Numbers.{reason_layer, refusal_at}
 use Rattle.refusals.proofs.Numbers.{layer_below, reason_at, reason_back, reason_below}
 use Rattle.values.specs.Bytes.{bytes_of_number, number_of_bytes}
@@ -114,7 +114,7 @@ unfolding finished_at
 finished_back (Cleared serial) = refl
 finished_back Owing = refl
 
-numbers_back : (numbers : List ℕ) → All (λ n. n < 2 ^ 16) numbers → numbers_in (flat_map two numbers) ≡ numbers
+numbers_back : (numbers : List ℕ) → AllByRecursion (λ n. n < 2 ^ 16) numbers → numbers_in (flat_map two numbers) ≡ numbers
 numbers_back [] fit = refl
 numbers_back (n ∷ numbers) fit =
     let first = from_two n fit.0 in

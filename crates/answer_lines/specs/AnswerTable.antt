@@ -1,6 +1,6 @@
 -- The table of answers that are written: the number of each kind, its fields in their order and widths, and the codes that stand in them.
 use Rattle.std.specs.Prelude.{ℕ, ◌^◌, ◌<◌, min, List, [], ◌∷◌, ◌++◌, length, ℤ}
-use Rattle.std.specs.List.{flat_map, AllByRecursion as All}
+use Rattle.std.specs.List.{flat_map, AllByRecursion}
 use Rattle.refusals.specs.Numbers.{layer_number, reason_layer, reason_number}
 use Rattle.values.specs.Bytes.{bytes_of_number}
 use Rattle.calls.specs.Answers.{Answered, begun, asked, settled, granted, finished, cleared, abandoned, ring_listed, owing_listed, refused}
@@ -71,6 +71,6 @@ AnswerFits (granted number lock schedule value) = (number < 2 ^ 16) × Signed32 
 AnswerFits (finished f) = finished_serial f < 2 ^ 16
 AnswerFits (cleared serial) = serial < 2 ^ 16
 AnswerFits abandoned = Unit {0}
-AnswerFits (ring_listed numbers) = (length numbers < 256) × All (λ n. n < 2 ^ 16) numbers
-AnswerFits (owing_listed numbers) = (length numbers < 256) × All (λ n. n < 2 ^ 16) numbers
+AnswerFits (ring_listed numbers) = (length numbers < 256) × AllByRecursion (λ n. n < 2 ^ 16) numbers
+AnswerFits (owing_listed numbers) = (length numbers < 256) × AllByRecursion (λ n. n < 2 ^ 16) numbers
 AnswerFits (refused r) = r.place < 2 ^ 16

@@ -1,8 +1,8 @@
 // An answer as bytes, kind by kind, and as the line that spells them.
 ghost use Rattle.std.specs.Prelude.{◌≡◌, ◌^◌, ◌<◌, ◌≤◌, ◌∷◌, length};
-ghost use Rattle.std.specs.List.{flat_map, AllByRecursion as All};
+ghost use Rattle.std.specs.List.{flat_map, AllByRecursion};
 ghost use Rattle.lists.specs.Held.{held};
-ghost use Rattle.calls.specs.Answers.{says, abandoned as abandoned-answer, asked as asked-answer, begun as begun-answer, cleared as cleared-answer, finished as finished-answer, granted as granted-answer, refused as refused-answer, settled as settled-answer};
+ghost use Rattle.calls.specs.Answers.{says, abandoned as abandoned_answer, asked as asked_answer, begun as begun_answer, cleared as cleared_answer, finished as finished_answer, granted as granted_answer, refused as refused_answer, settled as settled_answer};
 ghost use Rattle.answer_lines.specs.AnswerTable.{written_place};
 ghost use Rattle.frames.specs.Widths.{two};
 ghost use Rattle.answer_lines.specs.Written.{Spelled, Written};
@@ -17,28 +17,28 @@ use refusals::Refusal;
 use values::bytes_of_number;
 
 fn begun(number: u16) -> LineBytes
-    ensures { Spelled (begun-answer number) (held result) }
+    ensures { Spelled (begun_answer number) (held result) }
 {
     let [a, b] = number.to_be_bytes();
     FixedList::of(&[0x81, a, b], 0)
 }
 
 fn asked(asked: Asked) -> LineBytes
-    ensures { Spelled (asked-answer asked) (held result) }
+    ensures { Spelled (asked_answer asked) (held result) }
 {
     let [a, b, c, d] = asked_timestamp(asked).to_be_bytes();
     FixedList::of(&[0x82, asked_code(asked), a, b, c, d], 0)
 }
 
 fn settled(timestamp: u32) -> LineBytes
-    ensures { Spelled (settled-answer timestamp) (held result) }
+    ensures { Spelled (settled_answer timestamp) (held result) }
 {
     let [a, b, c, d] = timestamp.to_be_bytes();
     FixedList::of(&[0x83, a, b, c, d], 0)
 }
 
 fn granted(granted: Granted<i32>) -> LineBytes
-    ensures { Spelled (granted-answer granted.number granted.lock granted.schedule granted.value) (held result) }
+    ensures { Spelled (granted_answer granted.number granted.lock granted.schedule granted.value) (held result) }
 {
     let [a, b] = granted.number.to_be_bytes();
     let lock = lock_code(granted.lock);
@@ -48,21 +48,21 @@ fn granted(granted: Granted<i32>) -> LineBytes
 }
 
 fn finished(finished: Finished) -> LineBytes
-    ensures { Spelled (finished-answer finished) (held result) }
+    ensures { Spelled (finished_answer finished) (held result) }
 {
     let [a, b] = finished_serial(finished).to_be_bytes();
     FixedList::of(&[0x85, finished_code(finished), a, b], 0)
 }
 
 fn cleared(serial: u16) -> LineBytes
-    ensures { Spelled (cleared-answer serial) (held result) }
+    ensures { Spelled (cleared_answer serial) (held result) }
 {
     let [a, b] = serial.to_be_bytes();
     FixedList::of(&[0x86, a, b], 0)
 }
 
 fn abandoned() -> LineBytes
-    ensures { Spelled abandoned-answer (held result) }
+    ensures { Spelled abandoned_answer (held result) }
 {
     FixedList::of(&[0x87], 0)
 }
@@ -75,7 +75,7 @@ fn written_place(place: usize) -> u16
 }
 
 fn refused(refusal: Refusal) -> LineBytes
-    ensures { Spelled (refused-answer refusal) (held result) }
+    ensures { Spelled (refused_answer refusal) (held result) }
 {
     let layer = refusal.reason.layer().number();
     let number = refusal.reason.number();
@@ -87,7 +87,7 @@ fn refused(refusal: Refusal) -> LineBytes
 fn listed(kind: u8, numbers: &[u16]) -> LineBytes
     requires { length numbers.now ≤ 16 }
     ensures value { held result ≡ kind ∷ length numbers.now ∷ flat_map two numbers.now }
-    ensures small { All (λ n. n < 2 ^ 16) numbers.now }
+    ensures small { AllByRecursion (λ n. n < 2 ^ 16) numbers.now }
 {
     let mut bytes = FixedList::of(&[kind, numbers.len() as u8], 0);
     for number in numbers {

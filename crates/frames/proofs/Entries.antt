@@ -1,7 +1,7 @@
 -- The entries of a list that is kept as bytes: how many, which one stands where, and that they spell the bytes again.
 use Rattle.std.proofs.Common.{◌≡◌, ℕ, zero, suc, ◌+◌, ◌*◌, ◌/◌, ◌%◌, ◌^◌, ◌<◌, ◌≤◌, List, [], ◌∷◌, ◌++◌, length, get_or, ℤ, sym, refl, ap, ◌∙◌, arith, w32, to_z, of_z}
 use mir.Facts.{of_z-to_z}
-use Rattle.std.specs.List.{flat_map, AllByRecursion as All}
+use Rattle.std.specs.List.{flat_map, AllByRecursion}
 use Rattle.hexlines.specs.Hex.{Bytes}
 use Rattle.values.specs.Bytes.{bytes_of_number, number_of_bytes}
 use Rattle.calls.specs.declared.access.Access.{Access}
@@ -30,7 +30,7 @@ values_spell (a ∷ b ∷ c ∷ d ∷ bytes) small whole =
     let rest = values_spell bytes (λ k. small (suc (suc (suc (suc k))))) (omega arith) in
     ap (λ s. a ∷ b ∷ c ∷ d ∷ s) rest ∙ ap (λ s. s ++ flat_map bytes_of_number (values_in bytes)) (sym first)
 
-pub values_signed : (bytes : List ℕ) → Bytes bytes → All Signed32 (values_in bytes)
+pub values_signed : (bytes : List ℕ) → Bytes bytes → AllByRecursion Signed32 (values_in bytes)
 values_signed [] small = tt
 values_signed (a ∷ []) small = tt
 values_signed (a ∷ b ∷ []) small = tt
@@ -79,7 +79,7 @@ accesses_spell (code ∷ item ∷ bytes) whole modes =
     let rest = accesses_spell bytes (omega arith) (λ j h. rw (two_first j) at (modes (suc j) (omega arith))) in
     rw first (ap (λ s. code ∷ item ∷ s) rest)
 
-pub accesses_fit : (bytes : List ℕ) → Bytes bytes → All (λ a. a.item < 256) (accesses_in bytes)
+pub accesses_fit : (bytes : List ℕ) → Bytes bytes → AllByRecursion (λ a. a.item < 256) (accesses_in bytes)
 accesses_fit [] small = tt
 accesses_fit (code ∷ []) small = tt
 accesses_fit (code ∷ item ∷ bytes) small = (small 1, accesses_fit bytes (λ k. small (suc (suc k))))

@@ -1,6 +1,6 @@
 -- Laws of the table of frames: how long a call's frame is, that its modes are modes, and that no other call has the same frame.
 use Rattle.std.proofs.Common.{◌≡◌, ℕ, zero, suc, ◌+◌, ◌*◌, ◌/◌, ◌%◌, ◌<◌, ◌≤◌, cond, eqb, List, [], ◌∷◌, ◌++◌, length, get_or, drop, ℤ, sym, refl, ap, ◌∙◌, arith, w32, of_z}
-use Rattle.std.specs.List.{flat_map, AllByRecursion as All}
+use Rattle.std.specs.List.{flat_map, AllByRecursion}
 use Rattle.std.proofs.lemmas.Nat.{mod_below}
 use Rattle.hexlines.specs.Hex.{Bytes}
 use Rattle.hexlines.proofs.Spelling.{bytes_from_all}
@@ -75,7 +75,7 @@ accesses_back (a ∷ accesses) =
     let rest = accesses_back accesses in
     cc
 
-values_back : (values : List ℤ) → All Signed32 values → values_in (flat_map bytes_of_number values) ≡ values
+values_back : (values : List ℤ) → AllByRecursion Signed32 values → values_in (flat_map bytes_of_number values) ≡ values
 values_back [] signed = refl
 values_back (v ∷ values) signed =
     let first = signed.0 in
@@ -128,7 +128,7 @@ same_call c d fits fits' e =
 
 -- each of a call's bytes is below 256
 abbrev pub Small : List ℕ → Type 0
-Small bytes = All (λ b. b < 256) bytes
+Small bytes = AllByRecursion (λ b. b < 256) bytes
 
 low : (n : ℕ) → n % 256 < 256
 low n = mod_below n 256 (omega arith)
@@ -139,7 +139,7 @@ small_two n rest small = (low (n / 256), (low n, small))
 pub small_four : (n : ℕ) (rest : List ℕ) → Small rest → Small (four n ++ rest)
 small_four n rest small = (low (n / 16777216), (low (n / 65536), (low (n / 256), (low n, small))))
 
-small_accesses : (accesses : List Access) → All (λ a. a.item < 256) accesses → Small (flat_map access_bytes accesses)
+small_accesses : (accesses : List Access) → AllByRecursion (λ a. a.item < 256) accesses → Small (flat_map access_bytes accesses)
 small_accesses [] fits = tt
 small_accesses (a ∷ accesses) fits = (omega (arith, mode_below a.mode), (fits.0, small_accesses accesses fits.1))
 

@@ -1,6 +1,6 @@
 -- What a frame says, with the lists that it borrows from the decoded line.
 use Rattle.std.specs.Prelude.{◌≡◌, ℕ, ◌*◌, ◌%◌, ◌<◌, ◌≤◌, cond, List, [], ◌∷◌, length, ℤ, Some, None, Ok, Err, Option, Result, ◌==◌, slice_index, slice_index_or}
-use Rattle.std.specs.List.{flat_map, AllByRecursion as All}
+use Rattle.std.specs.List.{flat_map, AllByRecursion}
 use Rattle.protocols.specs.declared.question.Mode.{Mode}
 use Rattle.protocols.specs.declared.question.Mode.TheVariants.{Read, Write}
 use Rattle.values.specs.Bytes.{bytes_of_number, number_of_bytes}
@@ -53,7 +53,7 @@ frame_call Owing = owing
 -- bytes that are values, four for each
 abbrev pub ValuesIn : List ℕ → Option Values → Type 0
 ValuesIn bytes None = length bytes % 4 ≡ 0 → ⊥
-ValuesIn bytes (Some v) = (bytes ≡ flat_map bytes_of_number (values_of v)) × All Signed32 (values_of v)
+ValuesIn bytes (Some v) = (bytes ≡ flat_map bytes_of_number (values_of v)) × AllByRecursion Signed32 (values_of v)
 
 -- the first access whose mode is neither 00 nor 01 is the one at i; each access has two bytes, and its mode is the first
 pub record FirstBadMode (bytes : List ℕ) (i : ℕ) : Type 0 where
@@ -67,7 +67,7 @@ BadModeOf bytes (Some i) = FirstBadMode bytes i
 
 -- bytes that are accesses, two for each
 abbrev pub AccessesIn : List ℕ → Result Accesses ℕ → Type 0
-AccessesIn bytes (Ok a) = (bytes ≡ flat_map access_bytes (accesses_of a)) × All (λ x. x.item < 256) (accesses_of a)
+AccessesIn bytes (Ok a) = (bytes ≡ flat_map access_bytes (accesses_of a)) × AllByRecursion (λ x. x.item < 256) (accesses_of a)
 AccessesIn bytes (Err i) = FirstBadMode bytes i
 
 -- the entry at i of a list, if it is that long

@@ -1,6 +1,6 @@
 -- The table of frames that are read: the number of each kind, its fields in their order and widths, and how long it is.
 use Rattle.std.specs.Prelude.{◌≡◌, ℕ, ◌+◌, ◌*◌, ◌^◌, ◌<◌, List, [], ◌∷◌, ◌++◌, ℤ}
-use Rattle.std.specs.List.{flat_map, AllByRecursion as All}
+use Rattle.std.specs.List.{flat_map, AllByRecursion}
 use Rattle.protocols.specs.declared.question.Mode.{Mode}
 use Rattle.protocols.specs.declared.question.Mode.TheVariants.{Read, Write}
 use Rattle.values.specs.Bytes.{bytes_of_number, number_of_bytes}
@@ -87,11 +87,11 @@ Signed32 v = number_of_bytes (bytes_of_number v) ≡ v
 
 -- each field fits its width
 abbrev pub Fits : Call ℤ → Type 0
-Fits (begin protocol site timestamp interval accesses) = (protocol < 256) × (site < 256) × (timestamp < 2 ^ 32) × (interval < 2 ^ 32) × All (λ a. a.item < 256) accesses
+Fits (begin protocol site timestamp interval accesses) = (protocol < 256) × (site < 256) × (timestamp < 2 ^ 32) × (interval < 2 ^ 32) × AllByRecursion (λ a. a.item < 256) accesses
 Fits (ask number item) = (number < 2 ^ 16) × (item < 256)
 Fits (settle number) = number < 2 ^ 16
 Fits (grant item) = item < 256
-Fits (finish number values) = (number < 2 ^ 16) × All Signed32 values
+Fits (finish number values) = (number < 2 ^ 16) × AllByRecursion Signed32 values
 Fits (clear number) = number < 2 ^ 16
 Fits (abandon number) = number < 2 ^ 16
 Fits ring = Unit {0}

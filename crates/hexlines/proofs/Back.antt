@@ -1,6 +1,6 @@
 -- A line that spells bytes is not refused, and is decoded into these bytes.
 use Rattle.std.proofs.Common.{◌≡◌, ℕ, ◌≤◌, List, length, Ok, Err, Result, sym, ap, ◌∙◌, arith}
-use Rattle.std.specs.List.{AllByRecursion as All}
+use Rattle.std.specs.List.{AllByRecursion}
 use Rattle.std.proofs.ByRecursion.{All-get_or}
 use Rattle.refusals.specs.declared.Refusal.{Refusal}
 use Rattle.lists.specs.declared.fixed.FixedList.{FixedList}
@@ -12,7 +12,7 @@ use Rattle.hexlines.proofs.Spelling.{digits_from_hex, length-hex, same_from_hex}
 pub not_refused : (line : List ℕ) (e : Refusal) → Undecoded line e → (bytes : List ℕ) → Bytes bytes → length bytes ≤ 70 → line ≡ hex bytes → ⊥
 not_refused line e (too_long long _) bytes small short same = omega (arith, ap length same, length-hex bytes)
 not_refused line e (not_digit i _ first _) bytes small short same =
-    let digits : All Digit line = rw same (digits_from_hex bytes small) in
+    let digits : AllByRecursion Digit line = rw same (digits_from_hex bytes small) in
     first.other (All-get_or Digit line i 0 first.within digits)
 not_refused line e (odd _ _ uneven _) bytes small short same = omega (arith, ap length same, length-hex bytes)
 

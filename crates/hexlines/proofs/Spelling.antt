@@ -3,7 +3,7 @@ use Rattle.std.proofs.Common.{◌≡◌, ℕ, zero, suc, ◌+◌, ◌*◌, ◌/�
 use Rattle.std.proofs.lemmas.Nat.{div-mul-add, mod-mul-add, div_below, mod_below}
 use Rattle.std.proofs.lemmas.List.{append_assoc, flat_map_more, map_more, map_push, take_more}
 use Rattle.std.proofs.lemmas.Bool.Decides.{nat_tests}
-use Rattle.std.specs.List.{AllByRecursion as All}
+use Rattle.std.specs.List.{AllByRecursion}
 use Rattle.hexlines.specs.Hex.{digit, byte_digits, hex, Digit, Bytes}
 
 pub same_from_digit : (m n : ℕ) → m < 16 → n < 16 → digit m ≡ digit n → m ≡ n
@@ -26,7 +26,7 @@ low_below b = mod_below b 16 (omega arith)
 pub byte_digits_of_pair : (a b : ℕ) → b < 16 → byte_digits (a * 16 + b) ≡ digit a ∷ digit b ∷ []
 byte_digits_of_pair a b h = rw (div-mul-add a 16 b, mod-mul-add a 16 b) refl
 
-pub digits_from_hex : (bytes : List ℕ) → Bytes bytes → All Digit (hex bytes)
+pub digits_from_hex : (bytes : List ℕ) → Bytes bytes → AllByRecursion Digit (hex bytes)
 digits_from_hex [] small = tt
 digits_from_hex (b ∷ bytes) small =
     ((b / 16, high_below b (small 0), refl), ((b % 16, low_below b, refl), digits_from_hex bytes (λ k. small (suc k))))
@@ -56,7 +56,7 @@ hex_more bytes i within e f =
     let push = hex_push (take i bytes) (get_or bytes i 0) in
     cc
 
-pub all_digits : (numbers : List ℕ) → All (λ n. n < 16) numbers → All Digit (map digit numbers)
+pub all_digits : (numbers : List ℕ) → AllByRecursion (λ n. n < 16) numbers → AllByRecursion Digit (map digit numbers)
 all_digits [] small = tt
 all_digits (n ∷ numbers) small = ((n, small.0, refl), all_digits numbers small.1)
 
@@ -83,7 +83,7 @@ bytes_push [] b small h (suc k) = omega arith
 bytes_push (a ∷ bytes) b small h zero = small 0
 bytes_push (a ∷ bytes) b small h (suc k) = bytes_push bytes b (λ j. small (suc j)) h k
 
-pub bytes_from_all : (bytes : List ℕ) → All (λ b. b < 256) bytes → Bytes bytes
+pub bytes_from_all : (bytes : List ℕ) → AllByRecursion (λ b. b < 256) bytes → Bytes bytes
 bytes_from_all [] all k = omega arith
 bytes_from_all (b ∷ bytes) all zero = all.0
 bytes_from_all (b ∷ bytes) all (suc k) = bytes_from_all bytes all.1 k

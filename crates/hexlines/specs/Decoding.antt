@@ -1,6 +1,6 @@
 -- When a line is decoded, into which bytes, and why it is refused otherwise.
 use Rattle.std.specs.Prelude.{◌≡◌, ℕ, ◌%◌, ◌<◌, ◌≤◌, List, map, length, take, Some, None, Ok, Err, Option, Result, ◌≢◌, slice_index}
-use Rattle.std.specs.List.{AllByRecursion as All}
+use Rattle.std.specs.List.{AllByRecursion}
 use Rattle.refusals.specs.declared.Refusal.{Refusal}
 use Rattle.refusals.specs.declared.Reason.TheVariants.{LineTooLong, NotHexadecimal}
 use Rattle.refusals.specs.Numbers.{refusal_at}
@@ -16,21 +16,21 @@ NumberOf c (Some n) = (n < 16) × (c ≡ digit n)
 -- the first character that is no digit stands at i
 pub record FirstOther (line : List ℕ) (i : ℕ) : Type 0 where
   pub within : i < length line
-  pub before : All Digit (take i line)
+  pub before : AllByRecursion Digit (take i line)
   pub other : Digit (slice_index line i) → ⊥
 
 -- the first question answered no: at most 140 characters, only digits, evenly many
 pub data Undecoded (line : List ℕ) (e : Refusal) : Type 0 where
   too_long : 140 < length line → e ≡ refusal_at LineTooLong 140 → Undecoded line e
   not_digit : (i : ℕ) → length line ≤ 140 → FirstOther line i → e ≡ refusal_at NotHexadecimal i → Undecoded line e
-  odd : length line ≤ 140 → All Digit line → length line % 2 ≡ 1 → e ≡ refusal_at NotHexadecimal (length line) → Undecoded line e
+  odd : length line ≤ 140 → AllByRecursion Digit line → length line % 2 ≡ 1 → e ≡ refusal_at NotHexadecimal (length line) → Undecoded line e
 
 -- the numbers that a line's digits stand for
 pub record Read (line numbers : List ℕ) : Type 0 where
   pub each : line ≡ map digit numbers
   pub long : length numbers ≡ length line
-  pub small : All (λ n. n < 16) numbers
-  pub digits : All Digit line
+  pub small : AllByRecursion (λ n. n < 16) numbers
+  pub digits : AllByRecursion Digit line
 
 abbrev pub NumbersOf : List ℕ → Result (FixedList ℕ 140) Refusal → Type 0
 NumbersOf line (Ok numbers) = Read line (held numbers)

@@ -1,6 +1,6 @@
 // A line decoded into the bytes that it spells.
 ghost use Rattle.std.specs.Prelude.{◌≡◌, ◌%◌, ◌<◌, ◌≤◌, [], ◌∷◌, map, length};
-ghost use Rattle.std.specs.List.{AllByRecursion as All};
+ghost use Rattle.std.specs.List.{AllByRecursion};
 ghost use Rattle.hexlines.specs.Decoding.{Back, DecodeOf, NumbersOf};
 ghost use Rattle.hexlines.specs.Hex.{Bytes, byte_digits, digit, hex};
 ghost use Rattle.lists.specs.Held.{held};
@@ -42,7 +42,7 @@ fn pair(high: u8, low: u8) -> u8
 fn paired(numbers: &[u8]) -> LineBytes
     requires short { length numbers.now ≤ 140 }
     requires even { length numbers.now % 2 ≡ 0 }
-    requires small { All (λ n. n < 16) numbers.now }
+    requires small { AllByRecursion (λ n. n < 16) numbers.now }
     ensures value { hex (held result) ≡ map digit numbers.now }
     ensures small { Bytes (held result) }
 {
