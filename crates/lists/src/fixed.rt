@@ -1,25 +1,89 @@
-// The list's type. Its meaning is the front of the array; what stands behind the front is left over and means nothing.
-ghost use Rattle.std.specs.Prelude.{◌≡◌, ◌≤◌, length, ⊤};
+// A list whose places lie in the value itself. The filler stands in those that were never used.
+ghost use Rattle.std.specs.Prelude.{◌≡◌, ◌≤◌, [], ◌++◌, length, take};
+ghost use Rattle.lists.specs.FixedList.{Pushes, AddsAll};
 
-mod methods;
+use std::marker::Model;
 
-use std::alloc::AllocError;
-
+#[derive(Clone, Copy)]
 pub struct FixedList<T, const N: usize> {
-    items: [T; N],
+    places: [T; N],
     len: usize,
-    ghost whole: { length items ≡ N },
-    ghost fits: { len ≤ N },
 }
 
-impl<T: Copy, const N: usize> Copy for FixedList<T, N> {}
+impl<T, const N: usize> Model for FixedList<T, N> {
+    ghost use Rattle.std.specs.Prelude.{◌≡◌, ◌≤◌, ◌++◌, length, take, drop};
+    ghost use Rattle.std.proofs.Common.{arith, take-append-drop, length-take-le};
+    ghost use Rattle.lists.specs.FixedList.{FixedList as Items, fixed_list_code};
 
-impl<T: Copy, const N: usize> Clone for FixedList<T, N> {
-    ghost is_clone = { λ x y. y ≡ x };
+    ghost Value = { Items T };
 
-    ghost is_infallible = { λ _. ⊤ };
+    ghost coded = { fixed_list_code T.code };
 
-    fn clone(&self) -> Result<FixedList<T, N>, AllocError> {
-        Ok(*self)
+    ghost view = { λ l. record { items = take l.len l.places; spare = drop l.len l.places } };
+
+    ghost invariant = { λ l. (l.len ≤ N) × (length l.places ≡ N) };
+
+    ghost inverse = { λ l. record { places = l.items ++ l.spare; len = length l.items } };
+
+    ghost inverse_ok = { λ l h i. record {
+      places = take-append-drop l.len l.places i;
+      len = length-take-le l.len l.places (omega (arith, h.0, h.1)) i;
+    } };
+}
+
+impl<T: Copy, const N: usize> FixedList<T, N> {
+    pub fn new(filler: T) -> FixedList<T, N>
+        ensures { result.items ≡ [] }
+    {
+        FixedList {
+            places: [filler; N],
+            len: 0,
+        }
+    }
+
+    // the items, as many as there are places for
+    pub fn of(items: &[T], filler: T) -> FixedList<T, N>
+        ensures { result.items ≡ take N items.now }
+    {
+        let mut list = FixedList::new(filler);
+        list.extend(items);
+        list
+    }
+
+    pub fn len(&self) -> usize
+        ensures value { result ≡ length self.now.items }
+        ensures fits { result ≤ N }
+    {
+        self.len
+    }
+
+    pub fn as_slice(&self) -> &[T]
+        ensures value { result.now ≡ self.now.items }
+        ensures fits { length result.now ≤ N }
+    {
+        &self.places[..self.len]
+    }
+
+    // adds an item at the end, or hands it back where every place is used
+    pub fn push(&mut self, item: T) -> Result<(), T>
+        ensures { Pushes N item self.old.items self.new.items result }
+    {
+        if self.len >= N {
+            return Err(item);
+        }
+        self.places[self.len] = item;
+        self.len += 1;
+        Ok(())
+    }
+
+    // adds the items at the end, as many as there are places for
+    pub fn extend(&mut self, items: &[T])
+        ensures after { self.new.items ≡ take N (self.old.items ++ items.now) }
+        ensures whole { AddsAll N self.old.items items.now self.new.items }
+    {
+        let taken = (N - self.len).min(items.len());
+        let places = &mut self.places[..];
+        places[self.len..self.len + taken].copy_from_slice(&items[..taken]);
+        self.len += taken;
     }
 }

@@ -1,22 +1,21 @@
-use Rattle.std.proofs.Common.{◌≤◌, length, ◌∙◌, arith}
-use Rattle.std.proofs.lemmas.List.{length-take}
-use Rattle.lists.specs.Held.{held}
-use Rattle.lists.proofs.Fronts.{none, one_more, all, whole}
+use Rattle.std.proofs.Common.{◌≡◌, ◌+◌, ◌-◌, length, take, ap, ◌∙◌, arith}
+use Rattle.std.proofs.lemmas.List.{length-take, length-take-le, take_min}
+use Rattle.std.proofs.lemmas.Slice.{take-put_mid}
+use Rattle.std.proofs.Math.Seq.{take-append-add}
 use Rattle.lists.proofs.fixed.FixedList.extend.Goals as goal
 
-pub loop-item-init : goal.loop-item-init
-loop-item-init g c =
-    let list = c.args.self.now in
-    let fits : length (held list) ≤ g.row.N = simp length-take (omega (arith, list.fits)) in
-    none g.row.N (held list) c.args.items.now fits
-
-pub loop-item-preserved : goal.loop-item-preserved
-loop-item-preserved g c =
-    one_more g.row.N (held c.args.self.now) c.args.items.now c.loop-item.item-index c.loop-item-test.true c.item-item.result c.item-item.is (held c.loop-item.self) (held c.push.new.self) c.loop-item.invariant c.push.result c.push.ensures
-
-pub returns : goal.returns
-returns g c =
-    let before = held c.args.self.now in
+pub returns-clause-after : goal.returns-clause-after
+returns-clause-after g c =
+    let places = c.self.inside.places in
+    let len = c.self.inside.len in
+    let taken = c.min-taken.result in
     let items = c.args.items.now in
-    let after = c.loop-item.invariant ∙ all g.row.N before items c.loop-item.item-index c.loop-item-test.false in
-    record { after = after; whole = whole g.row.N before items (held c.loop-item.self) after }
+    let written = c.copy_from_slice.new.self in
+    let copied : written ≡ take taken items = c.copy_from_slice.ensures.after in
+    let long : length written ≡ taken = omega (arith, ap length copied, length-take taken items, c.min-taken.ensures) in
+    let front = take-put_mid len (len + taken - len) places written (len + taken) (omega arith) (omega arith) in
+    let same : written ≡ take (g.row.N - len) items = copied ∙ ap (λ n. take n items) c.min-taken.ensures ∙ take_min (g.row.N - len) items in
+    let whole = take-append-add (take len places) items (g.row.N - len) in
+    let count : length (take len places) + (g.row.N - len) ≡ g.row.N = omega (arith, length-take-le len places (omega arith)) in
+    let held = ap (λ l. l.items) c.self.view_is in
+    cc
