@@ -5,24 +5,21 @@ ghost use Rattle.std.specs.Prelude.{◌≡◌, Some};
 ghost use Rattle.refusals.specs.Numbers.{layer_number, reason_layer, reason_number, refusal_at};
 ghost use Rattle.refusals.specs.Text.{refusal_text};
 
+use std::error::Error;
 use std::fmt;
 
 #[derive(Clone, Copy, PartialEq, Eq, Debug)]
 pub enum Layer {
-    Reader,
-    Board,
-    Store,
+    Reader = 1,
+    Board = 2,
+    Store = 3,
 }
 
 impl Layer {
     pub fn number(self) -> u8
         ensures { result ≡ layer_number self }
     {
-        match self {
-            Layer::Reader => 1,
-            Layer::Board => 2,
-            Layer::Store => 3,
-        }
+        self as u8
     }
 }
 
@@ -30,21 +27,21 @@ impl Layer {
 #[derive(Clone, Copy, PartialEq, Eq, Debug)]
 pub enum Reason {
     // the store has no such item; the place is the item
-    NoSuchItem,
+    NoSuchItem = 20,
     // the store will not surely take another write; the place is 0
-    NoRoom,
+    NoRoom = 21,
     // the row lent to a tape is too short, too long (place 0), or has another item at its front (the place of the first such entry)
-    BadTapeRow,
+    BadTapeRow = 22,
     // the line has more than 140 characters; the place is 140
-    LineTooLong,
+    LineTooLong = 30,
     // a character is not one of 0 to 9 and a to f (the place is its index), or there are oddly many (the place is how many)
-    NotHexadecimal,
+    NotHexadecimal = 31,
     // no frame begins with this byte, or the line is empty; the place is 0
-    UnknownKind,
+    UnknownKind = 32,
     // no frame of its kind has that many bytes; the place is how many
-    WrongLength,
+    WrongLength = 33,
     // the mode of an access is neither 00 nor 01; the place is the index of that byte
-    BadMode,
+    BadMode = 34,
 }
 
 impl Reason {
@@ -64,16 +61,7 @@ impl Reason {
     pub fn number(self) -> u8
         ensures { result ≡ reason_number self }
     {
-        match self {
-            Reason::NoSuchItem => 20,
-            Reason::NoRoom => 21,
-            Reason::BadTapeRow => 22,
-            Reason::LineTooLong => 30,
-            Reason::NotHexadecimal => 31,
-            Reason::UnknownKind => 32,
-            Reason::WrongLength => 33,
-            Reason::BadMode => 34,
-        }
+        self as u8
     }
 
     pub fn at(self, place: usize) -> Refusal
@@ -103,3 +91,5 @@ impl fmt::Display for Refusal {
         write!(f, "layer {layer}, number {number}, place {place}")
     }
 }
+
+impl Error for Refusal {}
