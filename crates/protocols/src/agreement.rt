@@ -12,11 +12,17 @@ use crate::question::{Kind, Placement, Question};
 pub struct Agreement;
 
 // The first of timestamp + interval, timestamp + 2 × interval, .. above the bar.
-fn first_above(timestamp: u32, interval: u32, bar: u32) -> u64
-    requires order { timestamp ≤ bar }
-    requires step { 1 ≤ interval }
-    ensures { result ≡ first_above timestamp interval bar }
+fn first_above(question: Question) -> u64
+    requires order { question.timestamp ≤ question.bar }
+    requires step { 1 ≤ question.interval }
+    ensures { result ≡ first_above question.timestamp question.interval question.bar }
 {
+    let Question {
+        timestamp,
+        interval,
+        bar,
+        ..
+    } = question;
     // the bar is (bar - timestamp) % interval past the last step that is not above it
     u64::from(bar) + u64::from(interval) - u64::from((bar - timestamp) % interval)
 }
@@ -47,11 +53,9 @@ impl Protocol for Agreement {
         if question.interval == 0 {
             return Placement::Away;
         }
-        let place = first_above(question.timestamp, question.interval, question.bar);
-        if place <= u64::from(LAST_TIMESTAMP) {
-            Placement::Moved(place as u32)
-        } else {
-            Placement::Away
+        match u32::try_from(first_above(question)) {
+            Ok(place) if place <= LAST_TIMESTAMP => Placement::Moved(place),
+            _ => Placement::Away,
         }
     }
 }

@@ -1,5 +1,5 @@
 // A bank of two protocols is a protocol: the first one's numbers, then the second one's, as far as 255.
-ghost use Rattle.std.specs.Prelude.{◌+◌, ◌-◌, min, if◌then◌else◌, nat_lt};
+ghost use Rattle.std.specs.Prelude.{◌≡◌, ◌+◌, ◌-◌, min, if◌then◌else◌, nat_lt, Some, None};
 ghost use Rattle.protocols.specs.Renumbered.{renumbered};
 ghost use Rattle.std.proofs.Common.{rules};
 
@@ -10,6 +10,17 @@ use crate::question::{Kind, Placement, Question};
 pub struct Bank<A, B> {
     pub first: A,
     pub second: B,
+}
+
+impl<A: Protocol, B: Protocol> Bank<A, B> {
+    // The second protocol's number for a number of the bank, or none where that is one of the first's.
+    fn second_number(&self, number: u8) -> Option<u8>
+        ensures { result ≡ (if nat_lt number (A.count self.now.first) then None else Some (number - A.count self.now.first)) }
+    {
+        u16::from(number)
+            .checked_sub(self.first.numbers())
+            .map(|behind| behind as u8)
+    }
 }
 
 impl<A: Protocol, B: Protocol> Protocol for Bank<A, B> {
@@ -31,24 +42,16 @@ impl<A: Protocol, B: Protocol> Protocol for Bank<A, B> {
     }
 
     fn kind(&self, number: u8) -> Kind {
-        let before = self.first.numbers();
-        if u16::from(number) < before {
-            self.first.kind(number)
-        } else {
-            self.second.kind((u16::from(number) - before) as u8)
+        match self.second_number(number) {
+            None => self.first.kind(number),
+            Some(behind) => self.second.kind(behind),
         }
     }
 
     fn place(&self, question: Question) -> Placement {
-        let before = self.first.numbers();
-        let number = u16::from(question.number);
-        if number < before {
-            self.first.place(question)
-        } else {
-            self.second.place(Question {
-                number: (number - before) as u8,
-                ..question
-            })
+        match self.second_number(question.number) {
+            None => self.first.place(question),
+            Some(number) => self.second.place(Question { number, ..question }),
         }
     }
 }
