@@ -1,7 +1,6 @@
 -- What an answer says, over any kind of value: lists of numbers as lists.
 use Rattle.std.specs.Prelude.{List, ℕ}
 use Rattle.refusals.specs.declared.Refusal.{Refusal}
-use Rattle.lists.specs.Held.{held}
 use Rattle.calls.specs.declared.answer.Answer.{Answer}
 use Rattle.calls.specs.declared.answer.Answer.TheVariants.{Begun, Asked, Settled, Granted, Finished, Cleared, Abandoned, Ring, Owing, Refused}
 use Rattle.calls.specs.declared.granted.GrantedLock.{GrantedLock}
@@ -29,6 +28,6 @@ says (Granted g) = granted g.number g.lock g.schedule g.value
 says (Finished f) = finished f
 says (Cleared serial) = cleared serial
 says Abandoned = abandoned
-says (Ring numbers) = ring_listed (held numbers)
-says (Owing numbers) = owing_listed (held numbers)
+says (Ring numbers) = ring_listed numbers.items
+says (Owing numbers) = owing_listed numbers.items
 says (Refused refusal) = refused refusal

@@ -1,6 +1,6 @@
 // Where ask put a request.
 
-#[derive(Clone, Copy)]
+#[derive(Clone, Copy, PartialEq, Eq, Debug)]
 pub enum Asked {
     // at the transaction's own timestamp
     Own(u32),

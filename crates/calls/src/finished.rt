@@ -1,6 +1,6 @@
 // Where finish put a transaction.
 
-#[derive(Clone, Copy)]
+#[derive(Clone, Copy, PartialEq, Eq, Debug)]
 pub enum Finished {
     // cleared, at this place of the serial order
     Cleared(u16),

@@ -1,21 +1,21 @@
 // What a grant gives: a lock, and the value of the item.
 
 // A write lock can become a semi-write lock later; none is granted as one.
-#[derive(Clone, Copy)]
+#[derive(Clone, Copy, PartialEq, Eq, Debug)]
 pub enum GrantedLock {
     Read,
     Write,
     SemiRead,
 }
 
-#[derive(Clone, Copy)]
+#[derive(Clone, Copy, PartialEq, Eq, Debug)]
 pub enum Schedule {
     // no conflicting lock that was granted earlier still stands
     Normal,
     PreScheduled,
 }
 
-#[derive(Clone, Copy)]
+#[derive(Clone, Copy, PartialEq, Eq, Debug)]
 pub struct Granted<V> {
     pub number: u16,
     pub lock: GrantedLock,
