@@ -1,10 +1,11 @@
 -- A signed number and its four bytes, most significant first, in two's complement.
-use Rattle.std.specs.Prelude.{ℕ, ◌+◌, ◌*◌, ◌/◌, ◌%◌, ◌^◌, List, [], ◌∷◌, ℤ, slice_index}
-use Rattle.std.specs.Int.{w32}
-use Rattle.std.proofs.Common.{of_z, to_z}
+use Rattle.std.specs.Prelude.{ℕ, List, ℤ}
+use Rattle.std.specs.Int.{w32, cast_signed, cast_unsigned, from_be_bytes, to_be_bytes}
 
+-- the number that four bytes spell
 abbrev pub number_of_bytes : List ℕ → ℤ
-number_of_bytes b = to_z w32 (slice_index b 0 * 2 ^ 24 + slice_index b 1 * 2 ^ 16 + slice_index b 2 * 2 ^ 8 + slice_index b 3)
+number_of_bytes bytes = cast_signed w32 (from_be_bytes w32 bytes)
 
+-- the four bytes that spell a number
 abbrev pub bytes_of_number : ℤ → List ℕ
-bytes_of_number v = (of_z w32 v / 2 ^ 24 % 256) ∷ (of_z w32 v / 2 ^ 16 % 256) ∷ (of_z w32 v / 2 ^ 8 % 256) ∷ (of_z w32 v % 256) ∷ []
+bytes_of_number value = to_be_bytes w32 (cast_unsigned w32 value)

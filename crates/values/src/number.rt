@@ -1,5 +1,5 @@
 // The signed 32-bit number, which is its own row form.
-ghost use Rattle.std.specs.Prelude.{◌≡◌, [], ◌∷◌};
+ghost use Rattle.std.specs.Prelude.{◌≡◌};
 ghost use Rattle.values.specs.Bytes.{bytes_of_number, number_of_bytes};
 
 use crate::value::Value;
@@ -20,20 +20,12 @@ impl Value for i32 {
     }
 }
 
-fn spelled(a: u8, b: u8, c: u8, d: u8) -> i32
-    ensures value { result ≡ number_of_bytes (a ∷ b ∷ c ∷ d ∷ []) }
-    ensures back { bytes_of_number result ≡ a ∷ b ∷ c ∷ d ∷ [] }
-{
-    i32::from_be_bytes([a, b, c, d])
-}
-
 // The number that four bytes spell, most significant first. No two rows of bytes spell one number.
 pub fn number_of_bytes(bytes: [u8; 4]) -> i32
     ensures value { result ≡ number_of_bytes bytes }
     ensures back { bytes_of_number result ≡ bytes }
 {
-    let [a, b, c, d] = bytes;
-    spelled(a, b, c, d)
+    i32::from_be_bytes(bytes)
 }
 
 // The four bytes that spell a number, most significant first.
