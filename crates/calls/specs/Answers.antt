@@ -1,8 +1,8 @@
 -- What an answer says, over any kind of value: lists of numbers as lists.
-use Rattle.std.specs.Prelude.{List, ℕ}
+use Rattle.std.specs.Prelude.{List, ℕ, Ok, Err, Result}
 use Rattle.refusals.specs.declared.Refusal.{Refusal}
 use Rattle.calls.specs.declared.answer.Answer.{Answer}
-use Rattle.calls.specs.declared.answer.Answer.TheVariants.{Begun, Asked, Settled, Granted, Finished, Cleared, Abandoned, Ring, Owing, Refused}
+use Rattle.calls.specs.declared.answer.Answer.TheVariants.{Begun, Asked, Settled, Granted, Finished, Cleared, Abandoned, Ring, Owing}
 use Rattle.calls.specs.declared.granted.GrantedLock.{GrantedLock}
 use Rattle.calls.specs.declared.granted.Schedule.{Schedule}
 use Rattle.calls.specs.declared.asked.Asked.{Asked as AskedT}
@@ -20,14 +20,14 @@ pub data Answered (V : Type 0) : Type 0 where
   owing_listed : (numbers : List ℕ) → Answered V
   refused : Refusal → Answered V
 
-abbrev pub says : {V : Type 0} → Answer V → Answered V
-says (Begun number) = begun number
-says (Asked a) = asked a
-says (Settled timestamp) = settled timestamp
-says (Granted g) = granted g.number g.lock g.schedule g.value
-says (Finished f) = finished f
-says (Cleared serial) = cleared serial
-says Abandoned = abandoned
-says (Ring numbers) = ring_listed numbers.items
-says (Owing numbers) = owing_listed numbers.items
-says (Refused refusal) = refused refusal
+abbrev pub says : {V : Type 0} → Result (Answer V) Refusal → Answered V
+says (Ok (Begun number)) = begun number
+says (Ok (Asked a)) = asked a
+says (Ok (Settled timestamp)) = settled timestamp
+says (Ok (Granted g)) = granted g.number g.lock g.schedule g.value
+says (Ok (Finished f)) = finished f
+says (Ok (Cleared serial)) = cleared serial
+says (Ok Abandoned) = abandoned
+says (Ok (Ring numbers)) = ring_listed numbers.items
+says (Ok (Owing numbers)) = owing_listed numbers.items
+says (Err refusal) = refused refusal

@@ -27,5 +27,7 @@ pub enum Answer<V> {
     Ring(Numbers),
     // in the order begun
     Owing(Numbers),
-    Refused(Refusal),
 }
+
+// What a call comes to: an answer, or a refusal.
+pub type Reply<V> = Result<Answer<V>, Refusal>;

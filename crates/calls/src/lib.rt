@@ -8,7 +8,7 @@ mod finished;
 mod granted;
 
 pub use access::Access;
-pub use answer::{Answer, LIVE_LIMIT, Numbers};
+pub use answer::{Answer, LIVE_LIMIT, Numbers, Reply};
 pub use asked::Asked;
 pub use finished::Finished;
 pub use granted::{Granted, GrantedLock, Schedule};
