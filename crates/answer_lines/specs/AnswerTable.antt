@@ -1,8 +1,9 @@
 -- The table of answers that are written: the number of each kind, its fields in their order and widths, and the codes that stand in them.
-use Rattle.std.specs.Prelude.{ℕ, ◌^◌, ◌<◌, min, List, [], ◌∷◌, ◌++◌, length, ℤ}
-use Rattle.std.specs.List.{flat_map, AllByRecursion}
+use Rattle.std.specs.Prelude.{ℕ, ◌^◌, ◌<◌, min, All, List, [], ◌∷◌, ◌++◌, length, ℤ}
+use Rattle.std.specs.Int.{w16, w32, to_be_bytes}
+use Rattle.std.specs.List.{flat_map}
 use Rattle.refusals.specs.Numbers.{layer_number, reason_layer, reason_number}
-use Rattle.values.specs.Bytes.{bytes_of_number}
+use Rattle.values.specs.Bytes.{bytes_of_number, Signed32}
 use Rattle.calls.specs.Answers.{Answered, begun, asked, settled, granted, finished, cleared, abandoned, ring_listed, owing_listed, refused}
 use Rattle.calls.specs.declared.asked.Asked.{Asked}
 use Rattle.calls.specs.declared.asked.Asked.TheVariants.{Own, Moved, Last, Away}
@@ -12,8 +13,6 @@ use Rattle.calls.specs.declared.granted.GrantedLock.{GrantedLock}
 use Rattle.calls.specs.declared.granted.GrantedLock.TheVariants.{Read, Write, SemiRead}
 use Rattle.calls.specs.declared.granted.Schedule.{Schedule}
 use Rattle.calls.specs.declared.granted.Schedule.TheVariants.{Normal, PreScheduled}
-use Rattle.frames.specs.Widths.{two, four}
-use Rattle.frames.specs.Table.{Signed32}
 
 abbrev pub asked_code : Asked → ℕ
 asked_code (Own place) = 0
@@ -46,21 +45,21 @@ abbrev pub finished_serial : Finished → ℕ
 finished_serial (Cleared serial) = serial
 finished_serial Owing = 0
 
--- a place is written in two bytes; no frame leads to one that they do not hold
+-- a place is written in to_be_bytes w16 bytes; no frame leads to one that they do not hold
 abbrev pub written_place : ℕ → ℕ
 written_place place = min place 65535
 
 abbrev pub answer_bytes : Answered ℤ → List ℕ
-answer_bytes (begun number) = 0x81 ∷ two number
-answer_bytes (asked a) = 0x82 ∷ asked_code a ∷ four (asked_timestamp a)
-answer_bytes (settled timestamp) = 0x83 ∷ four timestamp
-answer_bytes (granted number lock schedule value) = 0x84 ∷ (two number ++ (lock_code lock ∷ schedule_code schedule ∷ bytes_of_number value))
-answer_bytes (finished f) = 0x85 ∷ finished_code f ∷ two (finished_serial f)
-answer_bytes (cleared serial) = 0x86 ∷ two serial
+answer_bytes (begun number) = 0x81 ∷ to_be_bytes w16 number
+answer_bytes (asked a) = 0x82 ∷ asked_code a ∷ to_be_bytes w32 (asked_timestamp a)
+answer_bytes (settled timestamp) = 0x83 ∷ to_be_bytes w32 timestamp
+answer_bytes (granted number lock schedule value) = 0x84 ∷ (to_be_bytes w16 number ++ (lock_code lock ∷ schedule_code schedule ∷ bytes_of_number value))
+answer_bytes (finished f) = 0x85 ∷ finished_code f ∷ to_be_bytes w16 (finished_serial f)
+answer_bytes (cleared serial) = 0x86 ∷ to_be_bytes w16 serial
 answer_bytes abandoned = 0x87 ∷ []
-answer_bytes (ring_listed numbers) = 0x88 ∷ length numbers ∷ flat_map two numbers
-answer_bytes (owing_listed numbers) = 0x89 ∷ length numbers ∷ flat_map two numbers
-answer_bytes (refused r) = 0x00 ∷ layer_number (reason_layer r.reason) ∷ reason_number r.reason ∷ two (written_place r.place)
+answer_bytes (ring_listed numbers) = 0x88 ∷ length numbers ∷ flat_map (to_be_bytes w16) numbers
+answer_bytes (owing_listed numbers) = 0x89 ∷ length numbers ∷ flat_map (to_be_bytes w16) numbers
+answer_bytes (refused r) = 0x00 ∷ layer_number (reason_layer r.reason) ∷ reason_number r.reason ∷ to_be_bytes w16 (written_place r.place)
 
 -- each field fits its width
 abbrev pub AnswerFits : Answered ℤ → Type 0
@@ -71,6 +70,6 @@ AnswerFits (granted number lock schedule value) = (number < 2 ^ 16) × Signed32 
 AnswerFits (finished f) = finished_serial f < 2 ^ 16
 AnswerFits (cleared serial) = serial < 2 ^ 16
 AnswerFits abandoned = Unit {0}
-AnswerFits (ring_listed numbers) = (length numbers < 256) × AllByRecursion (λ n. n < 2 ^ 16) numbers
-AnswerFits (owing_listed numbers) = (length numbers < 256) × AllByRecursion (λ n. n < 2 ^ 16) numbers
+AnswerFits (ring_listed numbers) = (length numbers < 256) × All (λ n. n < 2 ^ 16) numbers
+AnswerFits (owing_listed numbers) = (length numbers < 256) × All (λ n. n < 2 ^ 16) numbers
 AnswerFits (refused r) = r.place < 2 ^ 16

@@ -1,6 +1,5 @@
 -- What is written for an answer.
-use Rattle.std.specs.Prelude.{◌≡◌, ℕ, ◌%◌, ◌^◌, ◌<◌, List, length, ℤ}
-use Rattle.std.specs.List.{AllByRecursion}
+use Rattle.std.specs.Prelude.{All, ◌≡◌, ℕ, ◌%◌, ◌^◌, ◌<◌, List, length, ℤ}
 use Rattle.hexlines.specs.Hex.{Digit, hex}
 use Rattle.calls.specs.Answers.{Answered, begun, asked, settled, granted, finished, cleared, abandoned, ring_listed, owing_listed, refused}
 use Rattle.answer_lines.specs.AnswerTable.{answer_bytes, AnswerFits}
@@ -26,6 +25,6 @@ pub record Spelled (answer : Answered ℤ) (bytes : List ℕ) : Type 0 where
 -- the line is lowercase hexadecimal of even length, and whoever decodes it by the table comes back to the same answer
 pub record Written (answer : Answered ℤ) (line : List ℕ) : Type 0 where
   pub spelled : line ≡ hex (answer_bytes answer)
-  pub lowercase : AllByRecursion Digit line
+  pub lowercase : All Digit line
   pub even : length line % 2 ≡ 0
   pub back : PlaceFits answer → (other : Answered ℤ) → AnswerFits other → line ≡ hex (answer_bytes other) → other ≡ answer

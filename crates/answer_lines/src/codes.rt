@@ -1,4 +1,4 @@
-// The codes that stand in answers.
+// The codes that stand in answers. Asked and Finished carry numbers, and only an enum without any has `as u8`: a match is their form.
 ghost use Rattle.std.specs.Prelude.{◌≡◌};
 ghost use Rattle.answer_lines.specs.AnswerTable.{asked_code, asked_timestamp, finished_code, finished_serial, lock_code, schedule_code};
 
@@ -27,20 +27,13 @@ pub fn asked_timestamp(asked: Asked) -> u32
 pub fn lock_code(lock: GrantedLock) -> u8
     ensures { result ≡ lock_code lock }
 {
-    match lock {
-        GrantedLock::Read => 0,
-        GrantedLock::Write => 1,
-        GrantedLock::SemiRead => 2,
-    }
+    lock as u8
 }
 
 pub fn schedule_code(schedule: Schedule) -> u8
     ensures { result ≡ schedule_code schedule }
 {
-    match schedule {
-        Schedule::Normal => 0,
-        Schedule::PreScheduled => 1,
-    }
+    schedule as u8
 }
 
 pub fn finished_code(finished: Finished) -> u8

@@ -2,6 +2,7 @@
 #![tactic(auto)]
 
 mod codes;
+mod kinds;
 mod writing;
 
 pub use writing::write_answer;

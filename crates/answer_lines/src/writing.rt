@@ -1,70 +1,62 @@
 // An answer as bytes, kind by kind, and as the line that spells them.
-ghost use Rattle.std.specs.Prelude.{◌≡◌, ◌^◌, ◌<◌, ◌≤◌, ◌∷◌, length};
-ghost use Rattle.std.specs.List.{flat_map, AllByRecursion};
-ghost use Rattle.lists.specs.Held.{held};
-ghost use Rattle.calls.specs.Answers.{says, abandoned as abandoned_answer, asked as asked_answer, begun as begun_answer, cleared as cleared_answer, finished as finished_answer, granted as granted_answer, refused as refused_answer, settled as settled_answer};
+ghost use Rattle.std.specs.Prelude.{◌≡◌, ◌^◌, ◌<◌, ◌≤◌, All, ◌∷◌, length};
+ghost use Rattle.std.specs.Int.{w16, to_be_bytes};
+ghost use Rattle.std.specs.List.{flat_map};
+ghost use Rattle.calls.specs.Answers.{says, asked as asked_answer, finished as finished_answer, granted as granted_answer, refused as refused_answer, settled as settled_answer};
 ghost use Rattle.answer_lines.specs.AnswerTable.{written_place};
-ghost use Rattle.frames.specs.Widths.{two};
+ghost use Rattle.answer_lines.specs.Kinds.{kind_number};
 ghost use Rattle.answer_lines.specs.Written.{Spelled, Written};
 
 use crate::codes::{
     asked_code, asked_timestamp, finished_code, finished_serial, lock_code, schedule_code,
 };
-use calls::{Answer, Asked, Finished, Granted};
+use crate::kinds::AnswerKind;
+use calls::{Answer, Asked, Finished, Granted, Reply};
 use hexlines::{LINE_CHARACTERS, LineBytes, encode};
 use lists::FixedList;
 use refusals::Refusal;
 use values::bytes_of_number;
 
-fn begun(number: u16) -> LineBytes
-    ensures { Spelled (begun_answer number) (held result) }
+// A transaction's number or serial place behind the byte of a kind.
+fn numbered(kind: AnswerKind, number: u16) -> LineBytes
+    ensures { result.items ≡ kind_number kind ∷ to_be_bytes w16 number }
 {
     let [a, b] = number.to_be_bytes();
-    FixedList::of(&[0x81, a, b], 0)
+    FixedList::of(&[kind as u8, a, b], 0)
 }
 
 fn asked(asked: Asked) -> LineBytes
-    ensures { Spelled (asked_answer asked) (held result) }
+    ensures { Spelled (asked_answer asked) result.items }
 {
     let [a, b, c, d] = asked_timestamp(asked).to_be_bytes();
-    FixedList::of(&[0x82, asked_code(asked), a, b, c, d], 0)
+    let code = asked_code(asked);
+    FixedList::of(&[AnswerKind::Asked as u8, code, a, b, c, d], 0)
 }
 
 fn settled(timestamp: u32) -> LineBytes
-    ensures { Spelled (settled_answer timestamp) (held result) }
+    ensures { Spelled (settled_answer timestamp) result.items }
 {
     let [a, b, c, d] = timestamp.to_be_bytes();
-    FixedList::of(&[0x83, a, b, c, d], 0)
+    FixedList::of(&[AnswerKind::Settled as u8, a, b, c, d], 0)
 }
 
 fn granted(granted: Granted<i32>) -> LineBytes
-    ensures { Spelled (granted_answer granted.number granted.lock granted.schedule granted.value) (held result) }
+    ensures { Spelled (granted_answer granted.number granted.lock granted.schedule granted.value) result.items }
 {
     let [a, b] = granted.number.to_be_bytes();
     let lock = lock_code(granted.lock);
     let schedule = schedule_code(granted.schedule);
     let [v, w, x, y] = bytes_of_number(granted.value);
-    FixedList::of(&[0x84, a, b, lock, schedule, v, w, x, y], 0)
+    let kind = AnswerKind::Granted as u8;
+    FixedList::of(&[kind, a, b, lock, schedule, v, w, x, y], 0)
 }
 
 fn finished(finished: Finished) -> LineBytes
-    ensures { Spelled (finished_answer finished) (held result) }
+    ensures { Spelled (finished_answer finished) result.items }
 {
     let [a, b] = finished_serial(finished).to_be_bytes();
-    FixedList::of(&[0x85, finished_code(finished), a, b], 0)
-}
-
-fn cleared(serial: u16) -> LineBytes
-    ensures { Spelled (cleared_answer serial) (held result) }
-{
-    let [a, b] = serial.to_be_bytes();
-    FixedList::of(&[0x86, a, b], 0)
-}
-
-fn abandoned() -> LineBytes
-    ensures { Spelled abandoned_answer (held result) }
-{
-    FixedList::of(&[0x87], 0)
+    let code = finished_code(finished);
+    FixedList::of(&[AnswerKind::Finished as u8, code, a, b], 0)
 }
 
 // The largest place that two bytes hold stands for all that are larger.
@@ -75,47 +67,47 @@ fn written_place(place: usize) -> u16
 }
 
 fn refused(refusal: Refusal) -> LineBytes
-    ensures { Spelled (refused_answer refusal) (held result) }
+    ensures { Spelled (refused_answer refusal) result.items }
 {
     let layer = refusal.reason.layer().number();
     let number = refusal.reason.number();
     let [a, b] = written_place(refusal.place).to_be_bytes();
-    FixedList::of(&[0x00, layer, number, a, b], 0)
+    FixedList::of(&[AnswerKind::Refused as u8, layer, number, a, b], 0)
 }
 
 // A list of transactions behind the byte of its kind: how many, and their numbers.
-fn listed(kind: u8, numbers: &[u16]) -> LineBytes
+fn listed(kind: AnswerKind, numbers: &[u16]) -> LineBytes
     requires { length numbers.now ≤ 16 }
-    ensures value { held result ≡ kind ∷ length numbers.now ∷ flat_map two numbers.now }
-    ensures small { AllByRecursion (λ n. n < 2 ^ 16) numbers.now }
+    ensures value { result.items ≡ kind_number kind ∷ length numbers.now ∷ flat_map (to_be_bytes w16) numbers.now }
+    ensures small { All (λ n. n < 2 ^ 16) numbers.now }
 {
-    let mut bytes = FixedList::of(&[kind, numbers.len() as u8], 0);
+    let mut bytes = FixedList::of(&[kind as u8, numbers.len() as u8], 0);
     for number in numbers {
         bytes.extend(&number.to_be_bytes());
     }
     bytes
 }
 
-fn answer_bytes(answer: &Answer<i32>) -> LineBytes
-    ensures { Spelled (says answer.now) (held result) }
+fn answer_bytes(reply: &Reply<i32>) -> LineBytes
+    ensures { Spelled (says reply.now) result.items }
 {
-    match *answer {
-        Answer::Begun(number) => begun(number),
-        Answer::Asked(answered) => asked(answered),
-        Answer::Settled(timestamp) => settled(timestamp),
-        Answer::Granted(grant) => granted(grant),
-        Answer::Finished(end) => finished(end),
-        Answer::Cleared(serial) => cleared(serial),
-        Answer::Abandoned => abandoned(),
-        Answer::Ring(numbers) => listed(0x88, numbers.as_slice()),
-        Answer::Owing(numbers) => listed(0x89, numbers.as_slice()),
-        Answer::Refused(refusal) => refused(refusal),
+    match *reply {
+        Ok(Answer::Begun(number)) => numbered(AnswerKind::Begun, number),
+        Ok(Answer::Asked(answer)) => asked(answer),
+        Ok(Answer::Settled(timestamp)) => settled(timestamp),
+        Ok(Answer::Granted(grant)) => granted(grant),
+        Ok(Answer::Finished(end)) => finished(end),
+        Ok(Answer::Cleared(serial)) => numbered(AnswerKind::Cleared, serial),
+        Ok(Answer::Abandoned) => FixedList::of(&[AnswerKind::Abandoned as u8], 0),
+        Ok(Answer::Ring(numbers)) => listed(AnswerKind::Ring, numbers.as_slice()),
+        Ok(Answer::Owing(numbers)) => listed(AnswerKind::Owing, numbers.as_slice()),
+        Err(refusal) => refused(refusal),
     }
 }
 
-// The line that is printed for an answer, without its line feed.
-pub fn write_answer(answer: &Answer<i32>) -> FixedList<u8, LINE_CHARACTERS>
-    ensures { Written (says answer.now) (held result) }
+// The line that is printed for what a call comes to, without its line feed.
+pub fn write_answer(reply: &Reply<i32>) -> FixedList<u8, LINE_CHARACTERS>
+    ensures { Written (says reply.now) result.items }
 {
-    encode(&answer_bytes(answer))
+    encode(&answer_bytes(reply))
 }

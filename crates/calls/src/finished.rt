@@ -1,4 +1,4 @@
-// Where finish put a transaction.
+// Where finish put a transaction. An Option is no plainer: its None would not say that the transaction is owing.
 
 #[derive(Clone, Copy, PartialEq, Eq, Debug)]
 pub enum Finished {

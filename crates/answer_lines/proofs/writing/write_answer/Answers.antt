@@ -1,5 +1,4 @@
 use Rattle.std.proofs.Common.{◌≡◌, length, sym, ap, ◌∙◌, arith}
-use Rattle.lists.specs.Held.{held}
 use Rattle.hexlines.specs.Hex.{hex}
 use Rattle.hexlines.proofs.Spelling.{digits_from_hex, length-hex, same_from_hex}
 use Rattle.calls.specs.Answers.{says}
@@ -9,9 +8,9 @@ use Rattle.answer_lines.proofs.writing.write_answer.Goals as goal
 
 pub returns : goal.returns
 returns c =
-    let answer = says c.args.answer.now in
+    let answer = says c.args.reply.now in
     let spelt = c.answer_bytes.ensures in
-    let spelled : held c.encode.result ≡ hex (answer_bytes answer) = c.encode.ensures ∙ ap hex spelt.value in
+    let spelled : c.encode.result.items ≡ hex (answer_bytes answer) = c.encode.ensures ∙ ap hex spelt.value in
     let small = bytes_of_answer answer spelt.fits in
     record {
       spelled = spelled;
