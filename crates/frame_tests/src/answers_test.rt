@@ -1,39 +1,39 @@
 use answer_lines::write_answer;
-use calls::{Answer, Asked, Finished, Granted, GrantedLock, Schedule};
+use calls::{Answer, Asked, Finished, Granted, GrantedLock, Reply, Schedule};
 use lists::FixedList;
 use refusals::Reason;
 use std::process::Abort;
 
-fn written(rt: &impl Abort, answer: Answer<i32>, line: &[u8]) {
-    assert!(rt; write_answer(&answer).as_slice() == line);
+fn written(rt: &impl Abort, reply: Reply<i32>, line: &[u8]) {
+    assert!(rt; write_answer(&reply).as_slice() == line);
 }
 
-fn granted(lock: GrantedLock, schedule: Schedule, value: i32) -> Answer<i32> {
-    Answer::Granted(Granted {
+fn granted(lock: GrantedLock, schedule: Schedule, value: i32) -> Reply<i32> {
+    Ok(Answer::Granted(Granted {
         number: 1,
         lock,
         schedule,
         value,
-    })
+    }))
 }
 
 #[test]
 fn the_worked_example(rt: HostRuntime) {
-    written(&rt, Answer::Begun(1), b"810001");
-    written(&rt, Answer::Asked(Asked::Own(20)), b"820000000014");
-    written(&rt, Answer::Settled(20), b"8300000014");
+    written(&rt, Ok(Answer::Begun(1)), b"810001");
+    written(&rt, Ok(Answer::Asked(Asked::Own(20))), b"820000000014");
+    written(&rt, Ok(Answer::Settled(20)), b"8300000014");
     let grant = granted(GrantedLock::Write, Schedule::Normal, 0);
     written(&rt, grant, b"840001010000000000");
-    written(&rt, Answer::Finished(Finished::Cleared(1)), b"85000001");
+    written(&rt, Ok(Answer::Finished(Finished::Cleared(1))), b"85000001");
 }
 
 #[test]
 fn where_a_request_was_put(rt: HostRuntime) {
-    written(&rt, Answer::Asked(Asked::Moved(25)), b"820100000019");
-    written(&rt, Answer::Asked(Asked::Last(0)), b"820200000000");
+    written(&rt, Ok(Answer::Asked(Asked::Moved(25))), b"820100000019");
+    written(&rt, Ok(Answer::Asked(Asked::Last(0))), b"820200000000");
     written(
         &rt,
-        Answer::Asked(Asked::Away(1_000_000_000)),
+        Ok(Answer::Asked(Asked::Away(1_000_000_000))),
         b"82033b9aca00",
     );
 }
@@ -48,37 +48,37 @@ fn locks_schedules_and_values(rt: HostRuntime) {
 
 #[test]
 fn ends_of_transactions(rt: HostRuntime) {
-    written(&rt, Answer::Finished(Finished::Owing), b"85010000");
-    written(&rt, Answer::Cleared(60_000), b"86ea60");
-    written(&rt, Answer::Abandoned, b"87");
+    written(&rt, Ok(Answer::Finished(Finished::Owing)), b"85010000");
+    written(&rt, Ok(Answer::Cleared(60_000)), b"86ea60");
+    written(&rt, Ok(Answer::Abandoned), b"87");
 }
 
 #[test]
 fn lists_of_transactions(rt: HostRuntime) {
-    written(&rt, Answer::Ring(FixedList::new(0)), b"8800");
+    written(&rt, Ok(Answer::Ring(FixedList::new(0))), b"8800");
     let ring = FixedList::of(&[1, 2, 60_000], 0);
-    written(&rt, Answer::Ring(ring), b"880300010002ea60");
+    written(&rt, Ok(Answer::Ring(ring)), b"880300010002ea60");
     let all = FixedList::of(&[513; 16], 0);
     let line = b"89100201020102010201020102010201020102010201020102010201020102010201";
-    written(&rt, Answer::Owing(all), line);
+    written(&rt, Ok(Answer::Owing(all)), line);
 }
 
 #[test]
 fn refusals_are_answers(rt: HostRuntime) {
     written(
         &rt,
-        Answer::Refused(Reason::LineTooLong.at(140)),
+        Err(Reason::LineTooLong.at(140)),
         b"00011e008c",
     );
     written(
         &rt,
-        Answer::Refused(Reason::NoRoom.at(65_535)),
+        Err(Reason::NoRoom.at(65_535)),
         b"000315ffff",
     );
     // a place that two bytes do not hold is cut
     written(
         &rt,
-        Answer::Refused(Reason::NoSuchItem.at(70_000)),
+        Err(Reason::NoSuchItem.at(70_000)),
         b"000314ffff",
     );
 }

@@ -1,10 +1,11 @@
 // A list whose places lie in the value itself. The filler stands in those that were never used.
-ghost use Rattle.std.specs.Prelude.{◌≡◌, ◌≤◌, [], ◌++◌, length, take};
+ghost use Rattle.std.specs.Prelude.{◌≡◌, ◌≤◌, [], ◌++◌, length, take, ⊤};
 ghost use Rattle.lists.specs.FixedList.{Pushes, AddsAll};
 
+use std::alloc::AllocError;
 use std::marker::Model;
 
-#[derive(Clone, Copy)]
+#[derive(Copy)]
 pub struct FixedList<T, const N: usize> {
     places: [T; N],
     len: usize,
@@ -29,6 +30,17 @@ impl<T, const N: usize> Model for FixedList<T, N> {
       places = take-append-drop l.len l.places i;
       len = length-take-le l.len l.places (omega (arith, h.0, h.1)) i;
     } };
+}
+
+// A derived clone would promise no more than the items' own clones do. This one is the list itself, and never fails.
+impl<T: Copy, const N: usize> Clone for FixedList<T, N> {
+    ghost is_clone = { λ x y. y ≡ x };
+
+    ghost is_infallible = { λ _. ⊤ };
+
+    fn clone(&self) -> Result<FixedList<T, N>, AllocError> {
+        Ok(*self)
+    }
 }
 
 impl<T: Copy, const N: usize> FixedList<T, N> {
