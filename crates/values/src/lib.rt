@@ -6,5 +6,5 @@ mod plan;
 mod value;
 
 pub use number::{bytes_of_number, number_of_bytes};
-pub use plan::{PlanRecord, PlanRow};
+pub use plan::{Plan, PlanRecord, PlanRow};
 pub use value::Value;

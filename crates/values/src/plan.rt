@@ -1,27 +1,51 @@
 // The plan record: nothing yet, an orbit state, or a booking of a ground station.
 ghost use Rattle.std.specs.Prelude.{◌≡◌, from_bits, to_bits};
 ghost use Rattle.std.specs.Float.{binary64};
-ghost use Rattle.values.specs.Rows.{plan_row, plan_of_row};
+ghost use Rattle.values.specs.Rows.{plan_row, plan_of_row, MapsCoordinates};
 ghost use Rattle.values.specs.Text.{plan_text, plan_row_text};
 
 use crate::value::Value;
 use std::{fmt, num};
 
-#[derive(Clone, Copy, Debug)]
-pub enum PlanRecord {
+// A plan, by the form that its coordinates have.
+#[derive(Clone, Copy, PartialEq, Eq, Debug)]
+pub enum Plan<C> {
     Empty,
     // a position in km, and when it was taken, in seconds
-    Orbit { x: f64, y: f64, z: f64, epoch: u32 },
+    Orbit { x: C, y: C, z: C, epoch: u32 },
     // a ground station from start to end, in seconds
     Booking { station: u16, start: u32, end: u32 },
 }
 
+pub type PlanRecord = Plan<f64>;
+
 // A plan record with each float as its 64 bits, so that rows can be compared and kept byte for byte.
-#[derive(Clone, Copy, PartialEq, Eq, Debug)]
-pub enum PlanRow {
-    Empty,
-    Orbit { x: u64, y: u64, z: u64, epoch: u32 },
-    Booking { station: u16, start: u32, end: u32 },
+pub type PlanRow = Plan<u64>;
+
+impl<C: Copy> Plan<C> {
+    fn map<D, F: Fn(C) -> D>(self, change: F) -> Plan<D>
+        requires { F.IsAlwaysCallable change }
+        ensures { MapsCoordinates (F.post change) self result }
+    {
+        match self {
+            Plan::Empty => Plan::Empty,
+            Plan::Orbit { x, y, z, epoch } => Plan::Orbit {
+                x: change(x),
+                y: change(y),
+                z: change(z),
+                epoch,
+            },
+            Plan::Booking {
+                station,
+                start,
+                end,
+            } => Plan::Booking {
+                station,
+                start,
+                end,
+            },
+        }
+    }
 }
 
 fn bits_of(x: f64) -> u64
@@ -39,45 +63,11 @@ impl Value for PlanRecord {
     ghost unrowed = { plan_of_row };
 
     fn to_row(self) -> PlanRow {
-        match self {
-            PlanRecord::Empty => PlanRow::Empty,
-            PlanRecord::Orbit { x, y, z, epoch } => PlanRow::Orbit {
-                x: bits_of(x),
-                y: bits_of(y),
-                z: bits_of(z),
-                epoch,
-            },
-            PlanRecord::Booking {
-                station,
-                start,
-                end,
-            } => PlanRow::Booking {
-                station,
-                start,
-                end,
-            },
-        }
+        self.map(bits_of)
     }
 
     fn from_row(row: PlanRow) -> PlanRecord {
-        match row {
-            PlanRow::Empty => PlanRecord::Empty,
-            PlanRow::Orbit { x, y, z, epoch } => PlanRecord::Orbit {
-                x: num::f64_from_bits_with_nan(x),
-                y: num::f64_from_bits_with_nan(y),
-                z: num::f64_from_bits_with_nan(z),
-                epoch,
-            },
-            PlanRow::Booking {
-                station,
-                start,
-                end,
-            } => PlanRecord::Booking {
-                station,
-                start,
-                end,
-            },
-        }
+        row.map(|bits| num::f64_from_bits_with_nan(bits))
     }
 }
 
@@ -86,12 +76,12 @@ impl fmt::Display for PlanRecord {
 
     fn fmt<W: fmt::Write>(&self, f: &mut fmt::Formatter<W>) -> fmt::Result {
         match *self {
-            PlanRecord::Empty => write!(f, "empty"),
-            PlanRecord::Orbit { x, y, z, epoch } => write!(
+            Plan::Empty => write!(f, "empty"),
+            Plan::Orbit { x, y, z, epoch } => write!(
                 f,
                 "orbit at ({x}, {y}, {z}) km, epoch {epoch} s"
             ),
-            PlanRecord::Booking {
+            Plan::Booking {
                 station,
                 start,
                 end,
@@ -105,12 +95,12 @@ impl fmt::Display for PlanRow {
 
     fn fmt<W: fmt::Write>(&self, f: &mut fmt::Formatter<W>) -> fmt::Result {
         match *self {
-            PlanRow::Empty => write!(f, "empty"),
-            PlanRow::Orbit { x, y, z, epoch } => write!(
+            Plan::Empty => write!(f, "empty"),
+            Plan::Orbit { x, y, z, epoch } => write!(
                 f,
                 "orbit {x:016x} {y:016x} {z:016x}, epoch {epoch}"
             ),
-            PlanRow::Booking {
+            Plan::Booking {
                 station,
                 start,
                 end,
