@@ -1,11 +1,9 @@
 // A line decoded into the bytes that it spells.
-ghost use Rattle.std.specs.Prelude.{◌≡◌, ◌%◌, ◌<◌, ◌≤◌, [], ◌∷◌, map, length};
-ghost use Rattle.std.specs.List.{AllByRecursion};
-ghost use Rattle.hexlines.specs.Decoding.{Back, DecodeOf, NumbersOf};
-ghost use Rattle.hexlines.specs.Hex.{Bytes, byte_digits, digit, hex};
-ghost use Rattle.lists.specs.Held.{held};
+ghost use Rattle.std.specs.Prelude.{◌≡◌, ◌≤◌, All, MatchOption, flat_map, length};
+ghost use Rattle.hexlines.specs.Decoding.{Back, DecodeOf, FirstOther};
+ghost use Rattle.hexlines.specs.Hex.{Bytes, Digit, hex};
 
-use crate::digits::number_of;
+use crate::digits::{byte_of, is_digit};
 use crate::limits::{LINE_BYTES, LINE_CHARACTERS};
 use lists::FixedList;
 use refusals::{Reason, Refusal};
@@ -13,60 +11,46 @@ use refusals::{Reason, Refusal};
 // the bytes that a line spells; frames borrow from it
 pub type LineBytes = FixedList<u8, LINE_BYTES>;
 
-// The numbers that the digits of a line stand for.
-fn numbers_of(line: &[u8]) -> Result<FixedList<u8, LINE_CHARACTERS>, Refusal>
-    requires { length line.now ≤ 140 }
-    ensures { NumbersOf line.now result }
+// Where the first character stands that is no digit.
+fn first_other(line: &[u8]) -> Option<usize>
+    ensures { MatchOption result (All Digit line.now) (FirstOther line.now) }
 {
-    let mut numbers = FixedList::new(0);
-    for (i, character) in line.iter().enumerate() {
-        match number_of(*character) {
-            Some(number) => {
-                let _ = numbers.push(number);
-            }
-            None => return Err(Reason::NotHexadecimal.at(i)),
-        }
-    }
-    Ok(numbers)
+    line.iter().position(|character| !is_digit(*character))
 }
 
-// Two digits make a byte.
-fn pair(high: u8, low: u8) -> u8
-    requires high { high < 16 }
-    requires low { low < 16 }
-    ensures { byte_digits result ≡ digit high ∷ digit low ∷ [] }
-{
-    high * 16 + low
-}
-
-fn paired(numbers: &[u8]) -> LineBytes
-    requires short { length numbers.now ≤ 140 }
-    requires even { length numbers.now % 2 ≡ 0 }
-    requires small { AllByRecursion (λ n. n < 16) numbers.now }
-    ensures value { hex (held result) ≡ map digit numbers.now }
-    ensures small { Bytes (held result) }
+// The bytes that pairs of digits spell.
+fn bytes_of(pairs: &[[u8; 2]]) -> LineBytes
+    requires short { length pairs.now ≤ LINE_BYTES }
+    requires digits { All (All Digit) pairs.now }
+    ensures value { hex result.items ≡ flat_map (λ pair. pair) pairs.now }
+    ensures bytes { Bytes result.items }
 {
     let mut bytes = FixedList::new(0);
-    for i in 0..numbers.len() / 2 {
-        let _ = bytes.push(pair(numbers[2 * i], numbers[2 * i + 1]));
+    for pair in pairs {
+        let _ = bytes.push(byte_of(*pair));
     }
     bytes
 }
 
+#[tactic(auto, using(crate::proofs::Chunks::joined_chunks))]
 fn bytes_spelled(line: &[u8]) -> Result<LineBytes, Refusal>
     ensures { DecodeOf line.now result }
 {
     if line.len() > LINE_CHARACTERS {
         return Err(Reason::LineTooLong.at(LINE_CHARACTERS));
     }
-    let numbers = numbers_of(line)?;
-    if line.len() % 2 == 1 {
+    if let Some(place) = first_other(line) {
+        return Err(Reason::NotHexadecimal.at(place));
+    }
+    let (pairs, rest) = line.as_chunks::<2>();
+    if !rest.is_empty() {
         return Err(Reason::NotHexadecimal.at(line.len()));
     }
-    Ok(paired(numbers.as_slice()))
+    Ok(bytes_of(pairs))
 }
 
 // No two lines spell the same bytes, and what spells bytes is decoded into them.
+#[tactic(auto, using(crate::proofs::Back::back))]
 pub fn decode(line: &[u8]) -> Result<LineBytes, Refusal>
     ensures value { DecodeOf line.now result }
     ensures back { Back line.now result }

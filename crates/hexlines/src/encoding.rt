@@ -1,7 +1,6 @@
 // Bytes encoded as a line.
 ghost use Rattle.std.specs.Prelude.{◌≡◌};
 ghost use Rattle.hexlines.specs.Hex.{hex};
-ghost use Rattle.lists.specs.Held.{held};
 
 use crate::decoding::LineBytes;
 use crate::digits::digits_of;
@@ -9,7 +8,7 @@ use crate::limits::LINE_CHARACTERS;
 use lists::FixedList;
 
 pub fn encode(bytes: &LineBytes) -> FixedList<u8, LINE_CHARACTERS>
-    ensures { held result ≡ hex (held bytes.now) }
+    ensures { result.items ≡ hex bytes.now.items }
 {
     let mut line = FixedList::new(b'0');
     for byte in bytes.as_slice() {

@@ -10,4 +10,4 @@ mod split;
 pub use decoding::{LineBytes, decode};
 pub use encoding::encode;
 pub use limits::{INPUT_BYTES, LINE_BYTES, LINE_CHARACTERS};
-pub use split::{Split, first_line, readable};
+pub use split::{Lines, Split, first_line, readable};

@@ -6,4 +6,4 @@ pub const INPUT_BYTES: usize = 65_536;
 // the longest line that is decoded, and the bytes that it spells
 pub const LINE_CHARACTERS: usize = 140;
 
-pub const LINE_BYTES: usize = 70;
+pub const LINE_BYTES: usize = LINE_CHARACTERS / 2;
