@@ -1,4 +1,4 @@
-use hexlines::{INPUT_BYTES, first_line, readable};
+use hexlines::{INPUT_BYTES, Lines, first_line, readable};
 use std::test::Fail;
 
 #[test]
@@ -36,4 +36,13 @@ fn no_more_is_read_than_the_limit(rt: HostRuntime) {
     assert!(rt; readable(&at_limit).len() == INPUT_BYTES);
     let past_limit = [10u8; 65_537];
     assert!(rt; readable(&past_limit).len() == INPUT_BYTES);
+}
+
+#[test]
+fn lines_come_one_after_another(rt: HostRuntime) {
+    let mut lines = Lines::new(b"08\n\n09");
+    assert_eq!(rt; lines.next(), Some(b"08".as_slice()));
+    assert_eq!(rt; lines.next(), Some(b"".as_slice()));
+    assert_eq!(rt; lines.next(), Some(b"09".as_slice()));
+    assert_eq!(rt; lines.next(), None);
 }
