@@ -15,5 +15,5 @@ fn a_lent_row_comes_back(rt: HostRuntime) {
     let mut row = [1, 2, 3];
     write_through(&mut row, 1, 7);
     write_through(&mut row, 3, 9);
-    assert!(rt; row[0] == 1 && row[1] == 7 && row[2] == 3);
+    assert_eq!(rt; row, [1, 7, 3]);
 }

@@ -72,5 +72,5 @@ fn a_table_has_room_for_ever(rt: HostRuntime) {
     assert_eq!(rt; table.read(1), Ok(-2));
     assert_eq!(rt; table.read(2), Err(Reason::NoSuchItem.at(2)));
     assert_eq!(rt; table.write(2, 5), Err(Reason::NoSuchItem.at(2)));
-    assert!(rt; row[0] == -1 && row[1] == -2);
+    assert_eq!(rt; row, [-1, -2]);
 }

@@ -1,51 +1,50 @@
--- What stands at an item after entries were written: the newest one's value, or what stood there before.
-use Rattle.std.proofs.Common.{◌≡◌, ℕ, zero, suc, ◌+◌, ◌<◌, ◌≤◌, ◌≢◌, List, [], ◌∷◌, ◌++◌, length, get_or, take, drop, set, refl, ap, ◌∙◌, arith, length-drop, length-set, get_or-set_other, get_or-set_same}
-use lib.ListN.{length-map}
-use lib.Seq.{take-set-le, drop-set-add}
-use Rattle.std.proofs.lemmas.List.{take_more_set}
+-- What stands at an item after entries were written over the opening values: the newest entry's value, or the opening one.
+use Rattle.std.proofs.Common.{◌≡◌, ℕ, ◌+◌, ◌<◌, cond, List, [], ◌∷◌, Option, Some, Bor, length, take, drop, set, refl, ◌∙◌, arith, length-drop, length-set}
+use Rattle.std.specs.Prelude.{◌==◌, find, reverse, slice_get, unwrap_or}
+use Rattle.std.specs.Option.{option_copied, option_map_or}
+use Rattle.std.proofs.lemmas.Bool.Decides.{nat_tests}
+use Rattle.std.proofs.lemmas.Grind.{common_steps, fold-append, reverse_onto}
+use Rattle.std.proofs.lemmas.List.{length-map, length-take-le, take-set-le, drop-set-add, take_more_set}
+use Rattle.std.proofs.lemmas.List.Folds.{find-append}
+use Rattle.std.proofs.lemmas.Option.{gets, slice_get-map}
+use Rattle.values.specs.declared.value.Value.{Ghosts}
 use Rattle.stores.specs.declared.tape.Tape.{Tape}
 use Rattle.stores.specs.declared.tape.entry.Entry.{Entry}
-use Rattle.stores.specs.Tapes.{items, Newest, entry_values, written, tape_values}
+use Rattle.stores.specs.Tapes.{entry_values, written, tape_values}
 
 module _ {R V : Type 0} (f : R → V) where
   pub length-written : (vs : List V) (es : List (Entry R)) → length (written f vs es) ≡ length vs
   length-written vs [] = refl
   length-written vs (e ∷ es) = length-written (set vs e.item (f e.value)) es ∙ length-set vs e.item (f e.value)
 
-  pub written_push : (vs : List V) (es : List (Entry R)) (e : Entry R) → written f vs (es ++ e ∷ []) ≡ set (written f vs es) e.item (f e.value)
-  written_push vs [] e = refl
-  written_push vs (x ∷ es) e = written_push (set vs x.item (f x.value)) es e
+  slice_get-set : (vs : List V) (i j : ℕ) (v w : V) → slice_get vs i ≡ Some v → slice_get (set vs j w) i ≡ Some (cond (j == i) w v)
+  slice_get-set vs i j v w at = grind (arith, nat_tests, common_steps, gets)
 
-  pub written_none : (vs : List V) (es : List (Entry R)) (i : ℕ) (d : V) → ((j : ℕ) → j < length es → get_or (items es) j 0 ≢ i) → get_or (written f vs es) i d ≡ get_or vs i d
-  written_none vs [] i d none = refl
-  written_none vs (e ∷ es) i d none =
-      let other : i ≢ e.item = λ same. none 0 (omega arith) (omega arith) in
-      written_none (set vs e.item (f e.value)) es i d (λ j h. none (suc j) (omega arith))
-      ∙ get_or-set_other vs e.item i (f e.value) d other
+  -- the value at item i is that of its newest entry, or else the one before all of them
+  pub slice_get-written : (vs : List V) (es : List (Entry R)) (i : ℕ) (v : V) → slice_get vs i ≡ Some v
+      → slice_get (written f vs es) i ≡ Some (option_map_or (λ x. f x.value) (find (λ x. x.item == i) (reverse es)) v)
+  slice_get-written vs [] i v at = at
+  slice_get-written vs (e ∷ es) i v at =
+      grind (arith, nat_tests, reverse_onto, find-append, slice_get-written (set vs e.item (f e.value)) es i _ (slice_get-set vs i e.item v (f e.value) at))
 
-  pub written_newest : (vs : List V) (es : List (Entry R)) (i k : ℕ) (d : V) (e₀ : Entry R) → i < length vs → Newest es i k → get_or (written f vs es) i d ≡ f (get_or es k e₀).value
-  written_newest vs [] i k d e₀ within h = absurd (omega (arith, h.within))
-  written_newest vs (e ∷ es) i zero d e₀ within h =
-      written_none (set vs e.item (f e.value)) es i d (λ j l. h.last (suc j) (omega arith) (omega arith))
-      ∙ ap (λ m. get_or (set vs m (f e.value)) i d) h.same
-      ∙ get_or-set_same vs i (f e.value) d within
-  written_newest vs (e ∷ es) i (suc k) d e₀ within h =
-      let long : i < length (set vs e.item (f e.value)) = omega (arith, length-set vs e.item (f e.value)) in
-      written_newest (set vs e.item (f e.value)) es i k d e₀ long
-      (record { within = omega arith; same = h.same; last = λ j past l. h.last (suc j) (omega arith) (omega arith) })
+  -- the value at item i, by the opening entry of the item and the newest of those written since
+  pub slice_get-newest : (opening log : List (Entry R)) (i : ℕ) (newest : Option (Bor (Entry R))) (entry first : Bor (Entry R))
+      → slice_get opening i ≡ Some first.now → option_copied newest ≡ find (λ x. x.item == i) (reverse log) → entry ≡ unwrap_or newest first
+      → slice_get (written f (entry_values f opening) log) i ≡ Some (f entry.now.value)
+  slice_get-newest opening log i newest entry first at found taken =
+      let value : slice_get (written f (entry_values f opening) log) i ≡ Some (option_map_or (λ x. f x.value) (find (λ x. x.item == i) (reverse log)) (f first.now.value)) =
+      slice_get-written (entry_values f opening) log i (f first.now.value) (grind (arith, slice_get-map (λ e. f e.value) opening i)) in
+      grind arith
 
-  -- a tape has an item for each of its opening entries
-  pub length-tape_values : (t : Tape V R) → length (tape_values f t) ≡ length (take t.n t.row.now)
-  length-tape_values t =
-      length-written (entry_values f (take t.n t.row.now)) (take t.count (drop t.n t.row.now))
-      ∙ length-map (take t.n t.row.now) (λ e. f e.value)
-
-  -- an entry put behind the others is the newest of its item
-  pub tape_values_push : (row : List (Entry R)) (n count : ℕ) (e : Entry R) → n + count < length row
+  -- an entry put behind the others is written last
+  pub written_push : (row : List (Entry R)) (n count : ℕ) (e : Entry R) → n + count < length row
       → written f (entry_values f (take n (set row (n + count) e))) (take (count + 1) (drop n (set row (n + count) e)))
       ≡ set (written f (entry_values f (take n row)) (take count (drop n row))) e.item (f e.value)
-  tape_values_push row n count e free =
-      let after : n ≤ n + count = omega arith in
-      let unused : count < length (drop n row) = simp length-drop (omega arith) in
-      rw (take-set-le n row (n + count) e after, drop-set-add n row count e, take_more_set (drop n row) count e unused)
-      (written_push (entry_values f (take n row)) (take count (drop n row)) e)
+  written_push row n count e free = grind (arith, take-set-le n row (n + count) e, drop-set-add, take_more_set, fold-append, length-drop)
+
+module _ {V R : Type 0} {kind : Ghosts V R} where
+  -- a tape has an item for each of its opening entries
+  pub length-tape_values : (t : Tape V R kind) → length (tape_values t) ≡ t.n
+  length-tape_values t = grind (arith, length-written, length-map, length-take-le)
+
+  pub ruleset tape_lengths = (length-tape_values)

@@ -1,9 +1,9 @@
 // The table: a lent row of n values. Its room is always 65,535.
-ghost use Rattle.std.specs.Prelude.{◌≡◌, ◌<◌, [], ◌∷◌, length, slice_index_or, slice_set};
+ghost use Rattle.std.specs.Prelude.{◌≡◌, [], ◌∷◌};
 ghost use Rattle.stores.specs.Answers.{WriteOf};
-ghost use Rattle.stores.specs.Tables.{table_values, Rewritten};
+ghost use Rattle.stores.specs.Tables.{table_loans, table_row, table_values, Rewritten};
 
-use crate::store::Store;
+use crate::store::{Store, check_item};
 use refusals::{Reason, Refusal};
 use values::Value;
 
@@ -14,34 +14,10 @@ pub struct Table<'a, V: Value> {
 
 impl<'a, V: Value> Table<'a, V> {
     pub fn open(row: &'a mut [V::Row]) -> Table<'a, V>
-        ensures same { result.row.now ≡ row.old }
-        ensures lent { result.row.ghost_name ≡ row.entry.ghost_name }
+        ensures same { table_row result ≡ row.old }
+        ensures lent { table_loans result ≡ row.entry.ghost_name ∷ [] }
     {
         Table { row }
-    }
-
-    fn items(&self) -> usize
-        ensures value { result ≡ length (table_values V.Value.unrowed self.now) }
-        ensures len { result ≡ length self.now.row.now }
-    {
-        self.row.len()
-    }
-
-    fn value(&self, item: usize) -> V
-        requires { item < length self.now.row.now }
-        ensures { (d : V) → result ≡ slice_index_or (table_values V.Value.unrowed self.now) item d }
-    {
-        let row = &*self.row;
-        V::from_row(row[item])
-    }
-
-    fn put(&mut self, item: usize, value: V)
-        requires { item < length self.old.row.now }
-        ensures values { table_values V.Value.unrowed self.new ≡ slice_set (table_values V.Value.unrowed self.old) item value }
-        ensures row { self.new.row.now ≡ slice_set self.old.row.now item (V.Value.rowed value) }
-        ensures lent { self.new.row.ghost_name ≡ self.old.row.ghost_name }
-    {
-        self.row[item] = value.to_row();
     }
 }
 
@@ -52,10 +28,10 @@ impl<'a, V: Value> Store for Table<'a, V> {
 
     ghost space = { λ _. 65535 };
 
-    ghost loans = { λ s. s.row.ghost_name ∷ [] };
+    ghost loans = { table_loans };
 
     fn len(&self) -> usize {
-        self.items()
+        self.row.len()
     }
 
     fn room(&self) -> u16 {
@@ -63,21 +39,18 @@ impl<'a, V: Value> Store for Table<'a, V> {
     }
 
     fn read(&self, item: usize) -> Result<V, Refusal> {
-        if item >= self.items() {
-            return Err(Reason::NoSuchItem.at(item));
-        }
-        Ok(self.value(item))
+        let row = self.row.get(item).ok_or(Reason::NoSuchItem.at(item))?;
+        Ok(V::from_row(*row))
     }
 
     fn write(&mut self, item: usize, value: V) -> Result<(), Refusal>
-        ensures answer { WriteOf (table_values V.Value.unrowed self.old) 65535 item value tt result (table_values V.Value.unrowed self.new) 65535 }
-        ensures loans { self.new.row.ghost_name ∷ [] ≡ self.old.row.ghost_name ∷ [] }
+        ensures answer { WriteOf (table_values V.Value.unrowed self.old) 65535 item value result (table_values V.Value.unrowed self.new) 65535 }
+        ensures loans { table_loans self.new ≡ table_loans self.old }
         ensures row { Rewritten self.old item (V.Value.rowed value) result self.new }
     {
-        if item >= self.items() {
-            return Err(Reason::NoSuchItem.at(item));
-        }
-        self.put(item, value);
+        check_item(item, self.row.len())?;
+        // by index, since after a write through get_mut a proof knows the row's length and no value
+        self.row[item] = value.to_row();
         Ok(())
     }
 }

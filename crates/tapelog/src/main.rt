@@ -39,7 +39,7 @@ fn record<S: Store<Value = PlanRecord>>(
 
 // Prints the newest record of each item, and of one item too many.
 fn read_back<S: Store<Value = PlanRecord>>(rt: &impl Print, store: &S) -> io::Result<()> {
-    for item in 0..ITEMS + 1 {
+    for item in 0..=ITEMS {
         match store.read(item) {
             Ok(value) => println!(rt; "item {item} is {value}")?,
             Err(refusal) => println!(rt; "item {item}: refused, {refusal}")?,

@@ -1,23 +1,13 @@
 // The newest entry of an item.
-ghost use Rattle.std.specs.Prelude.{◌≡◌, ◌<◌, length, slice_index};
-ghost use Rattle.stores.specs.Tapes.{items, NewestIf};
+ghost use Rattle.std.specs.Prelude.{◌≡◌, ◌==◌, find, reverse, option_copied};
 
 use crate::tape::entry::Entry;
 
-pub(super) fn item_at<R>(entries: &[Entry<R>], k: usize) -> u16
-    requires { k < length entries.now }
-    ensures { result ≡ slice_index (items entries.now) k }
+pub(super) fn newest<R>(entries: &[Entry<R>], item: usize) -> Option<&Entry<R>>
+    ensures { option_copied result ≡ find (λ e. e.item == item) (reverse entries.now) }
 {
-    entries[k].item
-}
-
-pub(super) fn newest<R>(entries: &[Entry<R>], item: u16) -> Option<usize>
-    ensures { NewestIf entries.now item result }
-{
-    for k in (0..entries.len()).rev() {
-        if item_at(entries, k) == item {
-            return Some(k);
-        }
-    }
-    None
+    entries
+        .iter()
+        .rev()
+        .find(|entry| usize::from(entry.item) == item)
 }
