@@ -12,10 +12,12 @@ fn first_wrong<R>(row: &[Entry<R>], n: usize) -> Option<usize>
     requires { n ≤ length row.now }
     ensures { MatchOption result (Begins n row.now) (FirstWrong n row.now) }
 {
-    row[..n]
-        .iter()
-        .enumerate()
-        .position(|(k, entry)| usize::from(entry.item) != k)
+    for (k, entry) in row[..n].iter().enumerate() {
+        if usize::from(entry.item) != k {
+            return Some(k);
+        }
+    }
+    None
 }
 
 pub(super) fn check_row<R>(row: &[Entry<R>], n: usize) -> Result<(), Refusal>
