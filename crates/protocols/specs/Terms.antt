@@ -25,10 +25,3 @@ stands Own timestamp high = Some timestamp
 stands (Moved place) timestamp high = Some place
 stands Last timestamp high = Some high
 stands Away timestamp high = None
-
--- an answer that does not put the request at or below the bar
-abbrev pub Above : ℕ → ℕ → Placement → Type 0
-Above bar timestamp Own = bar < timestamp
-Above bar timestamp (Moved place) = bar < place
-Above bar timestamp Last = ⊥
-Above bar timestamp Away = Unit {0}

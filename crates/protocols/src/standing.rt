@@ -2,18 +2,10 @@
 ghost use Rattle.std.specs.Prelude.{◌≡◌, ◌<◌, IfSome, ◌≢◌};
 ghost use Rattle.protocols.specs.declared.question.Kind.TheVariants.{Lock};
 ghost use Rattle.protocols.specs.Limits.{Within};
-ghost use Rattle.protocols.specs.Terms.{stands, Above};
+ghost use Rattle.protocols.specs.Terms.{stands};
 
 use crate::protocol::Protocol;
 use crate::question::{Placement, Question};
-
-// What the protocol answers, with what its terms say of the bar.
-fn placement<P: Protocol>(protocol: &P, question: Question) -> Placement
-    ensures value { result ≡ P.placed protocol.now question }
-    ensures above { question.number < P.count protocol.now → Within question → (P.kinds protocol.now question.number ≢ Lock) → Above question.bar question.timestamp result }
-{
-    protocol.place(question)
-}
 
 // The place, in a queue whose largest place ever was `high`, or none where the request is turned away.
 // Only kind lock can stand at or below the bar.
@@ -21,7 +13,7 @@ pub fn stands_at<P: Protocol>(protocol: &P, question: Question, high: u32) -> Op
     ensures place { result ≡ stands (P.placed protocol.now question) question.timestamp high }
     ensures above { question.number < P.count protocol.now → Within question → (P.kinds protocol.now question.number ≢ Lock) → IfSome result (λ place. question.bar < place) }
 {
-    match placement(protocol, question) {
+    match protocol.place(question) {
         Placement::Own => Some(question.timestamp),
         Placement::Moved(place) => Some(place),
         Placement::Last => Some(high),
