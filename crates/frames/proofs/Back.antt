@@ -1,5 +1,5 @@
 -- The line that a writer of frames would write for a call is read as this call, and no other line is.
-use Rattle.std.proofs.Common.{◌≡◌, ℕ, ◌≤◌, List, ◌∷◌, length, get_or, drop, ℤ, Ok, Err, Result, sym, ap, ◌∙◌, subst, arith}
+use Rattle.std.proofs.Common.{◌≡◌, ℕ, ◌≤◌, List, ◌∷◌, length, slice_index, drop, ℤ, Ok, Err, Result, sym, ap, ◌∙◌, subst, arith}
 use Rattle.refusals.specs.declared.Refusal.{Refusal}
 use Rattle.hexlines.specs.Hex.{Bytes, hex}
 use Rattle.hexlines.proofs.Back.{not_refused as not-decoded}
@@ -8,7 +8,8 @@ use Rattle.calls.specs.Calls.{Call, begin, ask, settle, grant, finish, clear, ab
 use Rattle.frames.specs.declared.frame.Frame.{Frame}
 use Rattle.frames.specs.declared.kinds.FrameKind.{FrameKind}
 use Rattle.frames.specs.declared.kinds.FrameKind.TheVariants.{Begin}
-use Rattle.frames.specs.Table.{call_bytes, fields, kind_number, kind_of, RightLength}
+use Rattle.frames.specs.Kinds.{kind_number}
+use Rattle.frames.specs.Table.{call_bytes, fields, kind_of, RightLength}
 use Rattle.frames.specs.Borrowed.{FirstBadMode, frame_call}
 use Rattle.frames.specs.Reading.{FrameOf, Unframed, unknown_kind, wrong_length, bad_mode}
 use Rattle.frames.specs.Line.{LineBack, LineOf, LineOnly, LineSays, undecoded, unframed}
@@ -16,19 +17,19 @@ use Rattle.frames.proofs.Table.{bytes_of_call, modes_fit, right_length, same_cal
 
 first_byte : (c : Call ℤ) (kind : FrameKind) (rest : List ℕ) → call_bytes c ≡ kind_number kind ∷ rest → kind ≡ kind_of c
 first_byte c kind rest e =
-    let numbers : kind_number (kind_of c) ≡ kind_number kind = ap (λ s. get_or s 0 0) e in
+    let numbers : kind_number (kind_of c) ≡ kind_number kind = ap (λ s. slice_index s 0) e in
     same_kind kind (kind_of c) (sym numbers)
 
 no_bad_mode : (c : Call ℤ) → kind_of c ≡ Begin → (i : ℕ) → FirstBadMode (drop 11 (call_bytes c)) i → ⊥
 no_bad_mode (begin protocol site timestamp interval accesses) kind i first = omega (arith, first.bad, modes_fit accesses i)
-no_bad_mode (ask number item) kind i first = let z : ◌≡◌ {A = ℕ} 0 1 = cc in omega arith
-no_bad_mode (settle number) kind i first = let z : ◌≡◌ {A = ℕ} 0 1 = cc in omega arith
-no_bad_mode (grant item) kind i first = let z : ◌≡◌ {A = ℕ} 0 1 = cc in omega arith
-no_bad_mode (finish number values) kind i first = let z : ◌≡◌ {A = ℕ} 0 1 = cc in omega arith
-no_bad_mode (clear number) kind i first = let z : ◌≡◌ {A = ℕ} 0 1 = cc in omega arith
-no_bad_mode (abandon number) kind i first = let z : ◌≡◌ {A = ℕ} 0 1 = cc in omega arith
-no_bad_mode ring kind i first = let z : ◌≡◌ {A = ℕ} 0 1 = cc in omega arith
-no_bad_mode owing kind i first = let z : ◌≡◌ {A = ℕ} 0 1 = cc in omega arith
+no_bad_mode (ask number item) kind i first = cc
+no_bad_mode (settle number) kind i first = cc
+no_bad_mode (grant item) kind i first = cc
+no_bad_mode (finish number values) kind i first = cc
+no_bad_mode (clear number) kind i first = cc
+no_bad_mode (abandon number) kind i first = cc
+no_bad_mode ring kind i first = cc
+no_bad_mode owing kind i first = cc
 
 not_refused : (bytes : List ℕ) (e : Refusal) → Unframed bytes e → (c : Call ℤ) → bytes ≡ call_bytes c → ⊥
 not_refused bytes e (unknown_kind none _) c same = none (kind_of c) (fields c) same
@@ -59,3 +60,6 @@ back line (Err e) (undecoded u) = λ c says.
     not-decoded line e u (call_bytes c) (bytes_of_call c says.fits) half says.spelled
 back line (Err e) (unframed bytes short spelled small u) = λ c says.
     not_refused bytes e u c (same_bytes line bytes c small spelled says)
+
+-- what a line is read as, where its bytes were read
+pub ruleset read = (line_of, only, back)

@@ -1,5 +1,6 @@
+mod Bytes
+mod Fields
+mod Chunks
+mod Frames
+mod Table
 mod Back
-mod Entries
-mod Judged
-pub mod Table
-pub mod Widths

@@ -1,25 +1,27 @@
 -- Laws of the table of frames: how long a call's frame is, that its modes are modes, and that no other call has the same frame.
-use Rattle.std.proofs.Common.{◌≡◌, ℕ, zero, suc, ◌+◌, ◌*◌, ◌/◌, ◌%◌, ◌<◌, ◌≤◌, cond, eqb, List, [], ◌∷◌, ◌++◌, length, get_or, drop, ℤ, sym, refl, ap, ◌∙◌, arith, w32, of_z}
-use Rattle.std.specs.List.{flat_map, AllByRecursion}
-use Rattle.std.proofs.lemmas.Nat.{mod_below}
+use Rattle.std.proofs.Common.{◌≡◌, ℕ, zero, suc, ◌*◌, ◌/◌, ◌<◌, ◌≤◌, All, List, [], ◌∷◌, ◌++◌, length, map, get_or, slice_index, drop, ℤ, sym, refl, ap, ◌∙◌, arith, w16, w32, length-append}
+use Rattle.std.specs.Int.{cast_unsigned, from_be_bytes, to_be_bytes}
+use Rattle.std.specs.List.{flat_map}
+use Rattle.std.specs.Simd.{first_chunks}
+use Rattle.std.proofs.lemmas.List.{drop_at, take_at}
+use Rattle.std.proofs.lemmas.List.Elements.{All-head, All-tail, All-weaker}
+use Rattle.std.proofs.lemmas.Nat.{from_be_bytes-to_be_bytes_2, from_be_bytes-to_be_bytes_4}
 use Rattle.hexlines.specs.Hex.{Bytes}
-use Rattle.hexlines.proofs.Spelling.{bytes_from_all}
 use Rattle.protocols.specs.declared.question.Mode.{Mode}
 use Rattle.protocols.specs.declared.question.Mode.TheVariants.{Read, Write}
-use Rattle.values.specs.Bytes.{bytes_of_number}
+use Rattle.values.specs.Bytes.{bytes_of_number, number_of_bytes, Signed32}
 use Rattle.calls.specs.declared.access.Access.{Access}
 use Rattle.calls.specs.Calls.{Call, begin, ask, settle, grant, finish, clear, abandon, ring, owing}
 use Rattle.frames.specs.declared.kinds.FrameKind.{FrameKind}
 use Rattle.frames.specs.declared.kinds.FrameKind.TheVariants.{Begin, Ask, Settle, Grant, Finish, Clear, Abandon, Ring, Owing}
-use Rattle.frames.specs.Table.{access_bytes, call_bytes, Fits, kind_number, kind_of, mode_code, RightLength, Signed32}
-use Rattle.frames.specs.Widths.{two, four}
-use Rattle.frames.specs.Borrowed.{access_of, accesses_in, mode_of, values_in}
-use Rattle.frames.proofs.Entries.{two_first}
-use Rattle.frames.proofs.Widths.{from_two, from_four}
+use Rattle.frames.specs.Kinds.{kind_number}
+use Rattle.frames.specs.Table.{access_bytes, call_bytes, fields, Fits, kind_of, mode_code, RightLength}
+use Rattle.frames.specs.Fields.{access_in, mode_of}
+use Rattle.frames.proofs.Bytes.{Bytes-append, Bytes-cons, Bytes-flat_map, Bytes-nil, Bytes-to_be_bytes}
 
 -- a kind from its number
 kind_at : ℕ → FrameKind
-kind_at n = cond (eqb n 1) Begin (cond (eqb n 2) Ask (cond (eqb n 3) Settle (cond (eqb n 4) Grant (cond (eqb n 5) Finish (cond (eqb n 6) Clear (cond (eqb n 7) Abandon (cond (eqb n 8) Ring Owing)))))))
+kind_at n = get_or (Begin ∷ Begin ∷ Ask ∷ Settle ∷ Grant ∷ Finish ∷ Clear ∷ Abandon ∷ Ring ∷ []) n Owing
 
 kind_back : (kind : FrameKind) → kind_at (kind_number kind) ≡ kind
 unfolding kind_at
@@ -36,13 +38,27 @@ kind_back Owing = refl
 pub same_kind : (k l : FrameKind) → kind_number k ≡ kind_number l → k ≡ l
 same_kind k l e = sym (kind_back k) ∙ ap kind_at e ∙ kind_back l
 
+-- a list whose entries have n bytes each, by the value that each n bytes spell
+unfoldable pub list_in : {T : Type 0} → ℕ → (List ℕ → T) → List ℕ → List T
+list_in n value_of bytes = map value_of (first_chunks n (length bytes / n) bytes)
+
+module _ {T : Type 0} (n : ℕ) (bytes_of : T → List ℕ) (long : (x : T) → length (bytes_of x) ≡ n) where
+  length-entries : (xs : List T) → length (flat_map bytes_of xs) ≡ length xs * n
+  length-entries [] = omega arith
+  length-entries (x ∷ xs) = simp length-append (omega (arith, long x, length-entries xs))
+
+  chunks_back : (xs : List T) → first_chunks n (length xs) (flat_map bytes_of xs) ≡ map bytes_of xs
+  chunks_back [] = refl
+  chunks_back (x ∷ xs) =
+      let first = take_at (bytes_of x) (flat_map bytes_of xs) n (long x) in
+      let behind = drop_at (bytes_of x) (flat_map bytes_of xs) n (long x) in
+      rw (first, behind) (ap (λ s. bytes_of x ∷ s) (chunks_back xs))
+
 length-access_bytes : (accesses : List Access) → length (flat_map access_bytes accesses) ≡ length accesses * 2
-length-access_bytes [] = refl
-length-access_bytes (a ∷ accesses) = omega (arith, length-access_bytes accesses)
+length-access_bytes accesses = length-entries 2 access_bytes (λ a. refl) accesses
 
 length-value_bytes : (values : List ℤ) → length (flat_map bytes_of_number values) ≡ length values * 4
-length-value_bytes [] = refl
-length-value_bytes (v ∷ values) = omega (arith, length-value_bytes values)
+length-value_bytes values = length-entries 4 bytes_of_number (λ v. refl) values
 
 pub right_length : (c : Call ℤ) → RightLength (kind_of c) (length (call_bytes c))
 right_length (begin protocol site timestamp interval accesses) = (length accesses, omega (arith, length-access_bytes accesses))
@@ -59,114 +75,116 @@ mode_below : (m : Mode) → mode_code m ≤ 1
 mode_below Read = omega arith
 mode_below Write = omega arith
 
-pub modes_fit : (accesses : List Access) (i : ℕ) → get_or (flat_map access_bytes accesses) (2 * i) 0 ≤ 1
+pub modes_fit : (accesses : List Access) (i : ℕ) → slice_index (flat_map access_bytes accesses) (2 * i) ≤ 1
 modes_fit [] i = omega arith
 modes_fit (a ∷ accesses) zero = mode_below a.mode
-modes_fit (a ∷ accesses) (suc i) = rw (two_first i) (modes_fit accesses i)
+modes_fit (a ∷ accesses) (suc i) =
+    let twice : 2 * suc i ≡ suc (suc (2 * i)) = omega arith in
+    rw twice (modes_fit accesses i)
 
 mode_back : (m : Mode) → mode_of (mode_code m) ≡ m
 mode_back Read = refl
 mode_back Write = refl
 
-accesses_back : (accesses : List Access) → accesses_in (flat_map access_bytes accesses) ≡ accesses
-accesses_back [] = refl
-accesses_back (a ∷ accesses) =
-    let first : access_of (mode_code a.mode) a.item ≡ a = ap (λ m. record { mode = m; item = a.item }) (mode_back a.mode) in
-    let rest = accesses_back accesses in
-    cc
+accesses_back : (accesses : List Access) → list_in 2 access_in (flat_map access_bytes accesses) ≡ accesses
+unfolding list_in
+accesses_back accesses =
+    let count : length (flat_map access_bytes accesses) / 2 ≡ length accesses = omega (arith, length-access_bytes accesses) in
+    rw (count, chunks_back 2 access_bytes (λ a. refl) accesses) (each_access_back accesses)
+  where
+    each_access_back : (accesses : List Access) → map access_in (map access_bytes accesses) ≡ accesses
+    each_access_back [] = refl
+    each_access_back (a ∷ accesses) =
+        let first : access_in (access_bytes a) ≡ a = ap (λ m. record { mode = m; item = a.item }) (mode_back a.mode) in
+        let rest = each_access_back accesses in
+        cc
 
-values_back : (values : List ℤ) → AllByRecursion Signed32 values → values_in (flat_map bytes_of_number values) ≡ values
-values_back [] signed = refl
-values_back (v ∷ values) signed =
-    let first = signed.0 in
-    let rest = values_back values signed.1 in
-    cc
-
-unfoldable pub two_at : List ℕ → ℕ → ℕ
-two_at s i = get_or s i 0 * 256 + get_or s (i + 1) 0
-
-unfoldable pub four_at : List ℕ → ℕ → ℕ
-four_at s i = get_or s i 0 * 16777216 + get_or s (i + 1) 0 * 65536 + get_or s (i + 2) 0 * 256 + get_or s (i + 3) 0
+values_back : (values : List ℤ) → All Signed32 values → list_in 4 number_of_bytes (flat_map bytes_of_number values) ≡ values
+unfolding list_in
+values_back values signed =
+    let count : length (flat_map bytes_of_number values) / 4 ≡ length values = omega (arith, length-value_bytes values) in
+    rw (count, chunks_back 4 bytes_of_number (λ v. refl) values) (each_value_back values signed)
+  where
+    each_value_back : (values : List ℤ) → All Signed32 values → map number_of_bytes (map bytes_of_number values) ≡ values
+    each_value_back [] signed = refl
+    each_value_back (v ∷ values) signed =
+        let first = All-head Signed32 v values signed in
+        let rest = each_value_back values (All-tail Signed32 v values signed) in
+        cc
 
 call_in : List ℕ → FrameKind → Call ℤ
-call_in s Begin = begin (get_or s 1 0) (get_or s 2 0) (four_at s 3) (four_at s 7) (accesses_in (drop 11 s))
-call_in s Ask = ask (two_at s 1) (get_or s 3 0)
-call_in s Settle = settle (two_at s 1)
-call_in s Grant = grant (get_or s 1 0)
-call_in s Finish = finish (two_at s 1) (values_in (drop 3 s))
-call_in s Clear = clear (two_at s 1)
-call_in s Abandon = abandon (two_at s 1)
+call_in s Begin = begin (slice_index s 1) (slice_index s 2) (from_be_bytes w32 (drop 3 s)) (from_be_bytes w32 (drop 7 s)) (list_in 2 access_in (drop 11 s))
+call_in s Ask = ask (from_be_bytes w16 (drop 1 s)) (slice_index s 3)
+call_in s Settle = settle (from_be_bytes w16 (drop 1 s))
+call_in s Grant = grant (slice_index s 1)
+call_in s Finish = finish (from_be_bytes w16 (drop 1 s)) (list_in 4 number_of_bytes (drop 3 s))
+call_in s Clear = clear (from_be_bytes w16 (drop 1 s))
+call_in s Abandon = abandon (from_be_bytes w16 (drop 1 s))
 call_in s Ring = ring
 call_in s Owing = owing
 
 call_back : (c : Call ℤ) → Fits c → call_in (call_bytes c) (kind_of c) ≡ c
-unfolding call_in two_at four_at
+unfolding call_in
 call_back (begin protocol site timestamp interval accesses) fits =
-    let e = from_four timestamp fits.2 in
-    let f = from_four interval fits.3 in
+    let e = from_be_bytes-to_be_bytes_4 timestamp fits.2 in
+    let f = from_be_bytes-to_be_bytes_4 interval fits.3 in
     let g = accesses_back accesses in
     cc
-call_back (ask number item) fits = let e = from_two number fits.0 in cc
-call_back (settle number) fits = let e = from_two number fits in cc
+call_back (ask number item) fits = let e = from_be_bytes-to_be_bytes_2 number fits.0 in cc
+call_back (settle number) fits = let e = from_be_bytes-to_be_bytes_2 number fits in cc
 call_back (grant item) fits = refl
 call_back (finish number values) fits =
-    let e = from_two number fits.0 in
+    let e = from_be_bytes-to_be_bytes_2 number fits.0 in
     let f = values_back values fits.1 in
     cc
-call_back (clear number) fits = let e = from_two number fits in cc
-call_back (abandon number) fits = let e = from_two number fits in cc
+call_back (clear number) fits = let e = from_be_bytes-to_be_bytes_2 number fits in cc
+call_back (abandon number) fits = let e = from_be_bytes-to_be_bytes_2 number fits in cc
 call_back ring fits = refl
 call_back owing fits = refl
 
 pub same_call : (c d : Call ℤ) → Fits c → Fits d → call_bytes c ≡ call_bytes d → c ≡ d
 same_call c d fits fits' e =
-    let numbers : kind_number (kind_of c) ≡ kind_number (kind_of d) = ap (λ s. get_or s 0 0) e in
+    let numbers : kind_number (kind_of c) ≡ kind_number (kind_of d) = ap (λ s. slice_index s 0) e in
     let kinds = same_kind (kind_of c) (kind_of d) numbers in
     let back = call_back c fits in
     let back' = call_back d fits' in
     cc
 
--- each of a call's bytes is below 256
-abbrev pub Small : List ℕ → Type 0
-Small bytes = AllByRecursion (λ b. b < 256) bytes
+-- what fits its width is bytes
+accesses_bytes : (accesses : List Access) → All (λ a. a.item < 256) accesses → Bytes (flat_map access_bytes accesses)
+accesses_bytes accesses fits =
+    let each = All-weaker (λ a. a.item < 256) (λ a. Bytes (access_bytes a)) (λ a item. Bytes-cons (mode_code a.mode) (a.item ∷ []) (omega (arith, mode_below a.mode)) (Bytes-cons a.item [] item Bytes-nil)) accesses fits in
+    Bytes-flat_map access_bytes accesses each
 
-low : (n : ℕ) → n % 256 < 256
-low n = mod_below n 256 (omega arith)
+kind_below : (kind : FrameKind) → kind_number kind < 256
+kind_below Begin = omega arith
+kind_below Ask = omega arith
+kind_below Settle = omega arith
+kind_below Grant = omega arith
+kind_below Finish = omega arith
+kind_below Clear = omega arith
+kind_below Abandon = omega arith
+kind_below Ring = omega arith
+kind_below Owing = omega arith
 
-pub small_two : (n : ℕ) (rest : List ℕ) → Small rest → Small (two n ++ rest)
-small_two n rest small = (low (n / 256), (low n, small))
-
-pub small_four : (n : ℕ) (rest : List ℕ) → Small rest → Small (four n ++ rest)
-small_four n rest small = (low (n / 16777216), (low (n / 65536), (low (n / 256), (low n, small))))
-
-small_accesses : (accesses : List Access) → AllByRecursion (λ a. a.item < 256) accesses → Small (flat_map access_bytes accesses)
-small_accesses [] fits = tt
-small_accesses (a ∷ accesses) fits = (omega (arith, mode_below a.mode), (fits.0, small_accesses accesses fits.1))
-
-small_values : (values : List ℤ) → Small (flat_map bytes_of_number values)
-small_values [] = tt
-small_values (v ∷ values) = small_four (of_z w32 v) (flat_map bytes_of_number values) (small_values values)
-
-small_call : (c : Call ℤ) → Fits c → Small (call_bytes c)
-small_call (begin protocol site timestamp interval accesses) fits = (
-  omega arith,
-  (
-    fits.0,
-    (
-      fits.1,
-      small_four timestamp (four interval ++ flat_map access_bytes accesses)
-          (small_four interval (flat_map access_bytes accesses) (small_accesses accesses fits.4)),
-    ),
-  ),
-)
-small_call (ask number item) fits = (omega arith, small_two number (item ∷ []) (fits.1, tt))
-small_call (settle number) fits = (omega arith, small_two number [] tt)
-small_call (grant item) fits = (omega arith, (fits, tt))
-small_call (finish number values) fits = (omega arith, small_two number (flat_map bytes_of_number values) (small_values values))
-small_call (clear number) fits = (omega arith, small_two number [] tt)
-small_call (abandon number) fits = (omega arith, small_two number [] tt)
-small_call ring fits = (omega arith, tt)
-small_call owing fits = (omega arith, tt)
+bytes_of_fields : (c : Call ℤ) → Fits c → Bytes (fields c)
+bytes_of_fields (begin protocol site timestamp interval accesses) fits =
+    let list = flat_map access_bytes accesses in
+    let from_interval = to_be_bytes w32 interval ++ list in
+    let from_timestamp = to_be_bytes w32 timestamp ++ from_interval in
+    let small = Bytes-append (to_be_bytes w32 interval) list (Bytes-to_be_bytes w32 interval) (accesses_bytes accesses fits.4) in
+    let small' = Bytes-append (to_be_bytes w32 timestamp) from_interval (Bytes-to_be_bytes w32 timestamp) small in
+    Bytes-cons protocol (site ∷ from_timestamp) fits.0 (Bytes-cons site from_timestamp fits.1 small')
+bytes_of_fields (ask number item) fits = Bytes-append (to_be_bytes w16 number) (item ∷ []) (Bytes-to_be_bytes w16 number) (Bytes-cons item [] fits.1 Bytes-nil)
+bytes_of_fields (settle number) fits = Bytes-to_be_bytes w16 number
+bytes_of_fields (grant item) fits = Bytes-cons item [] fits Bytes-nil
+bytes_of_fields (finish number values) fits =
+    Bytes-append (to_be_bytes w16 number) (flat_map bytes_of_number values) (Bytes-to_be_bytes w16 number)
+    (Bytes-flat_map bytes_of_number values (λ k d within. Bytes-to_be_bytes w32 (cast_unsigned w32 (get_or values k d))))
+bytes_of_fields (clear number) fits = Bytes-to_be_bytes w16 number
+bytes_of_fields (abandon number) fits = Bytes-to_be_bytes w16 number
+bytes_of_fields ring fits = Bytes-nil
+bytes_of_fields owing fits = Bytes-nil
 
 pub bytes_of_call : (c : Call ℤ) → Fits c → Bytes (call_bytes c)
-bytes_of_call c fits = bytes_from_all (call_bytes c) (small_call c fits)
+bytes_of_call c fits = Bytes-cons (kind_number (kind_of c)) (fields c) (kind_below (kind_of c)) (bytes_of_fields c fits)

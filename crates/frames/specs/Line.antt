@@ -20,6 +20,7 @@ pub data Unread (line : List ℕ) (e : Refusal) : Type 0 where
   undecoded : Undecoded line e → Unread line e
   unframed : (bytes : List ℕ) → length line ≤ 140 → line ≡ hex bytes → Bytes bytes → Unframed bytes e → Unread line e
 
+-- what a line is read as: the frame that says its call, or why it says none
 abbrev pub LineOf : List ℕ → Result Frame Refusal → Type 0
 LineOf line (Ok f) = LineSays line (frame_call f)
 LineOf line (Err e) = Unread line e
@@ -27,7 +28,7 @@ LineOf line (Err e) = Unread line e
 -- a line that says a call is read as this call
 abbrev pub LineBack : List ℕ → Result Frame Refusal → Type 0
 LineBack line (Ok f) = (c : Call ℤ) → LineSays line c → frame_call f ≡ c
-LineBack line (Err e) = (c : Call ℤ) → LineSays line c → ⊥
+LineBack line (Err e) = (c : Call ℤ) → ¬ LineSays line c
 
 -- and no other line says it
 abbrev pub LineOnly : List ℕ → Result Frame Refusal → Type 0

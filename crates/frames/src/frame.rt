@@ -1,8 +1,7 @@
 // A frame that was read: a call with its arguments. Its lists are parts of the decoded line.
-use crate::accesses::Accesses;
-use crate::value_list::Values;
+use crate::entries::{Accesses, Values};
 
-#[derive(Clone, Copy)]
+#[derive(Clone, Copy, PartialEq, Eq, Debug)]
 pub enum Frame<'a> {
     Begin {
         protocol: u8,

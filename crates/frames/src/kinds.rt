@@ -1,7 +1,12 @@
 // The nine kinds of frame that are read, and their numbers.
-ghost use Rattle.frames.specs.Reading.{KindOf};
+ghost use Rattle.std.specs.Prelude.{◌≡◌};
+ghost use Rattle.refusals.specs.declared.Reason.TheVariants.{UnknownKind as UnknownKindReason};
+ghost use Rattle.refusals.specs.Numbers.{refusal_at};
+ghost use Rattle.frames.specs.Kinds.{KindOf};
 
-#[derive(Clone, Copy)]
+use refusals::{Reason, Refusal};
+
+#[derive(Clone, Copy, PartialEq, Eq, Debug)]
 pub enum FrameKind {
     Begin,
     Ask,
@@ -14,19 +19,35 @@ pub enum FrameKind {
     Owing,
 }
 
-pub fn kind_of(byte: u8) -> Option<FrameKind>
-    ensures { KindOf byte result }
-{
-    match byte {
-        1 => Some(FrameKind::Begin),
-        2 => Some(FrameKind::Ask),
-        3 => Some(FrameKind::Settle),
-        4 => Some(FrameKind::Grant),
-        5 => Some(FrameKind::Finish),
-        6 => Some(FrameKind::Clear),
-        7 => Some(FrameKind::Abandon),
-        8 => Some(FrameKind::Ring),
-        9 => Some(FrameKind::Owing),
-        _ => None,
+// No kind has this number.
+#[derive(Clone, Copy, PartialEq, Eq, Debug)]
+pub struct UnknownKind;
+
+impl TryFrom<u8> for FrameKind {
+    type Error = UnknownKind;
+
+    ghost try_from_gives = { KindOf };
+
+    fn try_from(number: u8) -> Result<FrameKind, UnknownKind> {
+        match number {
+            1 => Ok(FrameKind::Begin),
+            2 => Ok(FrameKind::Ask),
+            3 => Ok(FrameKind::Settle),
+            4 => Ok(FrameKind::Grant),
+            5 => Ok(FrameKind::Finish),
+            6 => Ok(FrameKind::Clear),
+            7 => Ok(FrameKind::Abandon),
+            8 => Ok(FrameKind::Ring),
+            9 => Ok(FrameKind::Owing),
+            _ => Err(UnknownKind),
+        }
+    }
+}
+
+impl From<UnknownKind> for Refusal {
+    ghost from_gives = { λ _ refusal. refusal ≡ refusal_at UnknownKindReason 0 };
+
+    fn from(_unknown: UnknownKind) -> Refusal {
+        Reason::UnknownKind.at(0)
     }
 }

@@ -1,16 +1,16 @@
 // Frames: a line read as a call, with its lists borrowed from the decoded line.
 #![tactic(auto)]
 
-mod accesses;
-mod fields;
+mod cursor;
+mod display;
+mod entries;
+mod field;
 mod frame;
-mod fronts;
 mod kinds;
 mod line;
+mod malformed;
 mod reading;
-mod value_list;
 
-pub use accesses::Accesses;
+pub use entries::{Accesses, Entries, EntriesIter, Values};
 pub use frame::Frame;
 pub use line::read_line;
-pub use value_list::Values;

@@ -1,0 +1,46 @@
+-- Bytes cut into fields.
+use Rattle.std.proofs.Common.{◌≡◌, ℕ, zero, suc, ◌*◌, ◌≤◌, All, List, [], ◌∷◌, ◌++◌, length, take, drop, sym, ap, ◌∙◌, arith}
+use Rattle.std.specs.List.{concat}
+use Rattle.std.specs.Simd.{first_chunks}
+use Rattle.std.proofs.lemmas.List.{length-drop, length-take-le, nil_from_length, take-append-drop}
+use Rattle.std.proofs.lemmas.List.Elements.{All-cons, All-nil}
+use Rattle.std.proofs.lemmas.Option.{slice_get-map, slice_get_read}
+use Rattle.hexlines.specs.Hex.{Bytes}
+use Rattle.frames.specs.Entries.{IsChunk}
+
+Bytes-take : (n : ℕ) (bytes : List ℕ) → Bytes bytes → Bytes (take n bytes)
+Bytes-take zero bytes small k = omega arith
+Bytes-take (suc n) [] small k = omega arith
+Bytes-take (suc n) (b ∷ bytes) small zero = small 0
+Bytes-take (suc n) (b ∷ bytes) small (suc k) = Bytes-take n bytes (λ i. small (suc i)) k
+
+Bytes-drop : (n : ℕ) (bytes : List ℕ) → Bytes bytes → Bytes (drop n bytes)
+Bytes-drop zero bytes small = small
+Bytes-drop (suc n) [] small = small
+Bytes-drop (suc n) (b ∷ bytes) small = Bytes-drop n bytes (λ i. small (suc i))
+
+-- where any n bytes are the ones of the value that they spell, bytes are those of their first value, and the rest
+module _ {T : Type 0} (value_of : List ℕ → T) (bytes_of : T → List ℕ) (n : ℕ) (spelled : (front : List ℕ) → length front ≡ n → Bytes front → bytes_of (value_of front) ≡ front) where
+  pub first_spelled : (bytes front rest : List ℕ) (value : T) → Bytes bytes → n ≤ length bytes → front ≡ take n bytes → rest ≡ drop n bytes → value ≡ value_of front → bytes ≡ bytes_of value ++ rest
+  first_spelled bytes front rest value small long cut behind is =
+      let whole : bytes_of (value_of front) ≡ front = rw cut (spelled (take n bytes) (length-take-le n bytes long) (Bytes-take n bytes small)) in
+      rw (is, whole, cut, behind) (sym (take-append-drop n bytes))
+
+-- bytes cut n by n are chunks
+pub chunks-are : (n k : ℕ) (bytes : List ℕ) → Bytes bytes → k * n ≤ length bytes → All (IsChunk n) (first_chunks n k bytes)
+chunks-are n zero bytes small long = All-nil (IsChunk n)
+chunks-are n (suc k) bytes small long =
+    let first : n ≤ length bytes = omega arith in
+    let rest : k * n ≤ length (drop n bytes) = omega (arith, length-drop n bytes) in
+    let chunk : IsChunk n (take n bytes) = record { long = length-take-le n bytes first; small = Bytes-take n bytes small } in
+    All-cons (IsChunk n) (take n bytes) (first_chunks n k (drop n bytes)) chunk (chunks-are n k (drop n bytes) (Bytes-drop n bytes small) rest)
+
+-- chunks of all the bytes, joined, are the bytes
+pub concat-first_chunks : (n k : ℕ) (bytes : List ℕ) → length bytes ≡ k * n → concat (first_chunks n k bytes) ≡ bytes
+concat-first_chunks n zero bytes long = sym (nil_from_length bytes (omega arith))
+concat-first_chunks n (suc k) bytes long =
+    let rest : length (drop n bytes) ≡ k * n = omega (arith, length-drop n bytes) in
+    ap (λ s. take n bytes ++ s) (concat-first_chunks n k (drop n bytes) rest) ∙ take-append-drop n bytes
+
+-- an element of a mapped list is made of the list's
+pub ruleset mapped_element = (slice_get-map, slice_get_read)
