@@ -47,7 +47,7 @@ Bytes-coded kind code k n low small = Bytes-cons kind (code ∷ bytes_high_first
 -- a byte, a count and that many numbers
 Bytes-listed : (kind count : ℕ) (numbers : List ℕ) → kind < 256 → count < 256 → Bytes (kind ∷ count ∷ flat_map (to_be_bytes w16) numbers)
 Bytes-listed kind count numbers low few =
-    let each = Bytes-flat_map (to_be_bytes w16) (Bytes-high_first 2) numbers in
+    let each = Bytes-flat_map (to_be_bytes w16) numbers (λ k d _. Bytes-high_first 2 (get_or numbers k d)) in
     Bytes-cons kind (count ∷ flat_map (to_be_bytes w16) numbers) low (Bytes-cons count (flat_map (to_be_bytes w16) numbers) few each)
 
 pub bytes_of_answer : (a : Answered ℤ) → (PlaceFits a → AnswerFits a) → Bytes (answer_bytes a)

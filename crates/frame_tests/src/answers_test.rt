@@ -65,20 +65,8 @@ fn lists_of_transactions(rt: HostRuntime) {
 
 #[test]
 fn refusals_are_answers(rt: HostRuntime) {
-    written(
-        &rt,
-        Err(Reason::LineTooLong.at(140)),
-        b"00011e008c",
-    );
-    written(
-        &rt,
-        Err(Reason::NoRoom.at(65_535)),
-        b"000315ffff",
-    );
+    written(&rt, Err(Reason::LineTooLong.at(140)), b"00011e008c");
+    written(&rt, Err(Reason::NoRoom.at(65_535)), b"000315ffff");
     // a place that two bytes do not hold is cut
-    written(
-        &rt,
-        Err(Reason::NoSuchItem.at(70_000)),
-        b"000314ffff",
-    );
+    written(&rt, Err(Reason::NoSuchItem.at(70_000)), b"000314ffff");
 }

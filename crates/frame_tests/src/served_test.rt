@@ -111,3 +111,31 @@ fn ring_and_owing_are_alone() -> Result<(), Fail> {
     };
     Ok(())
 }
+
+#[test]
+fn the_entries_of_a_frame_come_one_after_another(rt: HostRuntime) -> Result<(), Fail> {
+    let mut buffer = FixedList::new(0);
+    let frame = read_line(b"05ea60fffffff97fffffff80000000", &mut buffer)?;
+    let Frame::Finish { values, .. } = frame else {
+        return Err(Fail::new("no finish"));
+    };
+    let mut entries = values.into_iter();
+    assert_eq!(rt; entries.next(), Some(-7));
+    assert_eq!(rt; entries.next(), Some(i32::MAX));
+    assert_eq!(rt; entries.next(), Some(i32::MIN));
+    assert_eq!(rt; entries.next(), None);
+    Ok(())
+}
+
+#[test]
+fn a_frame_is_printed_in_words(rt: HostRuntime) -> Result<(), Fail> {
+    let mut buffer = FixedList::new(0);
+    let frame = read_line(b"0102c800000005000f4240001f0100", &mut buffer)?;
+    let text = format!(in rt.alloc(); "{frame}")?;
+    let words = "begin protocol 2 site 200 timestamp 5 interval 1000000: read 31 write 0";
+    assert_eq!(rt; text.as_str(), words);
+    let frame = read_line(b"050001fffffff9", &mut buffer)?;
+    let text = format!(in rt.alloc(); "{frame}")?;
+    assert_eq!(rt; text.as_str(), "finish 1: -7");
+    Ok(())
+}

@@ -1,23 +1,13 @@
 -- Bytes cut into fields.
-use Rattle.std.proofs.Common.{◌≡◌, ℕ, zero, suc, ◌*◌, ◌≤◌, All, List, [], ◌∷◌, ◌++◌, length, take, drop, sym, ap, ◌∙◌, arith}
+use Rattle.std.proofs.Common.{◌≡◌, ℕ, zero, suc, ◌*◌, ◌≤◌, All, List, ◌++◌, length, take, drop, sym, ap, ◌∙◌, arith}
 use Rattle.std.specs.List.{concat}
 use Rattle.std.specs.Simd.{first_chunks}
 use Rattle.std.proofs.lemmas.List.{length-drop, length-take-le, nil_from_length, take-append-drop}
 use Rattle.std.proofs.lemmas.List.Elements.{All-cons, All-nil}
 use Rattle.std.proofs.lemmas.Option.{slice_get-map, slice_get_read}
 use Rattle.hexlines.specs.Hex.{Bytes}
+use Rattle.hexlines.proofs.Bytes.{Bytes-drop, Bytes-take}
 use Rattle.frames.specs.Entries.{IsChunk}
-
-Bytes-take : (n : ℕ) (bytes : List ℕ) → Bytes bytes → Bytes (take n bytes)
-Bytes-take zero bytes small k = omega arith
-Bytes-take (suc n) [] small k = omega arith
-Bytes-take (suc n) (b ∷ bytes) small zero = small 0
-Bytes-take (suc n) (b ∷ bytes) small (suc k) = Bytes-take n bytes (λ i. small (suc i)) k
-
-Bytes-drop : (n : ℕ) (bytes : List ℕ) → Bytes bytes → Bytes (drop n bytes)
-Bytes-drop zero bytes small = small
-Bytes-drop (suc n) [] small = small
-Bytes-drop (suc n) (b ∷ bytes) small = Bytes-drop n bytes (λ i. small (suc i))
 
 -- where any n bytes are the ones of the value that they spell, bytes are those of their first value, and the rest
 module _ {T : Type 0} (value_of : List ℕ → T) (bytes_of : T → List ℕ) (n : ℕ) (spelled : (front : List ℕ) → length front ≡ n → Bytes front → bytes_of (value_of front) ≡ front) where

@@ -1,4 +1,3 @@
-mod Bytes
 mod Fields
 mod Chunks
 mod Frames

@@ -17,7 +17,7 @@ use Rattle.frames.specs.declared.kinds.FrameKind.TheVariants.{Begin, Ask, Settle
 use Rattle.frames.specs.Kinds.{kind_number}
 use Rattle.frames.specs.Table.{access_bytes, call_bytes, fields, Fits, kind_of, mode_code, RightLength}
 use Rattle.frames.specs.Fields.{access_in, mode_of}
-use Rattle.frames.proofs.Bytes.{Bytes-append, Bytes-cons, Bytes-flat_map, Bytes-nil, Bytes-to_be_bytes}
+use Rattle.hexlines.proofs.Bytes.{Bytes-append, Bytes-cons, Bytes-flat_map, Bytes-nil, Bytes-to_be_bytes}
 
 -- a kind from its number
 kind_at : ℕ → FrameKind

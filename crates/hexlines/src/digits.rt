@@ -9,7 +9,7 @@ pub fn is_digit(character: u8) -> bool
     matches!(character, b'0'..=b'9' | b'a'..=b'f')
 }
 
-// The number that a digit stands for.
+// The number that a digit stands for; char::to_digit takes upper case too.
 pub fn number_of(character: u8) -> u8
     requires { Digit character }
     ensures small { result < 16 }

@@ -1,4 +1,5 @@
-// A list whose places lie in the value itself. The filler stands in those that were never used.
+// A list whose places lie in the value itself: memory is sized once, and nothing here may allocate, so it is no Vec.
+// The filler stands in the places that were never used.
 ghost use Rattle.std.specs.Prelude.{◌≡◌, ◌≤◌, [], ◌++◌, length, take, ⊤};
 ghost use Rattle.lists.specs.FixedList.{Pushes, AddsAll};
 
