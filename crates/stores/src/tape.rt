@@ -16,7 +16,7 @@ use values::Value;
 pub struct Tape<'a, V: Value> {
     row: &'a mut [Entry<V::Row>],
     n: usize,
-    // how many entries were written since the tape was opened
+    // how many entries were written since the tape was opened: the row is lent memory, which no Vec can take
     count: usize,
     ghost within: { n + count ≤ length row.now },
     ghost longest: { length row.now ≤ 65535 },
