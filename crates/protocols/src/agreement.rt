@@ -61,6 +61,7 @@ impl Protocol for Agreement {
 }
 
 // What agreement answers is moved by the smallest whole number of intervals. This holds of the definition that `place` meets, so it has nothing to run.
+#[tactic(auto, using(crate::proofs::Smallest::by_smallest_step))]
 pub fn agreement_takes_the_smallest_step()
     ensures { AgreedBySmallestStep }
 {}

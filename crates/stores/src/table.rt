@@ -21,6 +21,7 @@ impl<'a, V: Value> Table<'a, V> {
     }
 }
 
+#[tactic(auto, using(crate::proofs::Mapped::mapped_write))]
 impl<'a, V: Value> Store for Table<'a, V> {
     type Value = V;
 
