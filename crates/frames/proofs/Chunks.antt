@@ -1,7 +1,7 @@
 -- The entries of a list: that they spell its bytes again, and fit.
 use Rattle.std.proofs.Common.{◌≡◌, ◌≢◌, ℕ, Ok, Err, Result, MatchResult, length-append, zero, suc, ◌*◌, ◌^◌, ◌%◌, ◌<◌, ◌≤◌, All, Bool, false, List, [], ◌∷◌, Some, None, length, map, nat_lt, get_or, position, slice_index, ℤ, sym, refl, ap, ◌∙◌, arith, w32}
 use Rattle.std.specs.Int.{from_be_bytes}
-use Rattle.std.specs.List.{concat, flat_map}
+use Rattle.std.specs.List.{flat_map}
 use Rattle.std.proofs.lemmas.Bool.{ltb-false, ltb-true}
 use Rattle.std.proofs.lemmas.Grind.{common_steps}
 use Rattle.std.proofs.lemmas.Int.{of_z-to_z}
@@ -21,7 +21,7 @@ use Rattle.frames.specs.Borrowed.{AccessesIn, ValuesIn}
 
 -- where each chunk is the bytes of the value that it spells, these bytes are the chunks joined
 module _ {T : Type 0} (value_of : List ℕ → T) (bytes_of : T → List ℕ) where
-  pub flat_map-map : (chunks : List (List ℕ)) → All (λ chunk. bytes_of (value_of chunk) ≡ chunk) chunks → flat_map bytes_of (map value_of chunks) ≡ concat chunks
+  pub flat_map-map : (chunks : List (List ℕ)) → All (λ chunk. bytes_of (value_of chunk) ≡ chunk) chunks → flat_map bytes_of (map value_of chunks) ≡ flat_map (λ chunk. chunk) chunks
   flat_map-map [] spelled = refl
   flat_map-map (chunk ∷ chunks) spelled =
       let first : bytes_of (value_of chunk) ≡ chunk = All-head (λ b. bytes_of (value_of b) ≡ b) chunk chunks spelled in
@@ -78,12 +78,12 @@ accesses_in bytes a entries none =
     (sym entries.joined ∙ sym (flat_map-map access_in access_bytes chunks spelled), All-map (λ x. x.item < 256) access_in chunks small)
 
 -- the joined chunks of two bytes are twice as many bytes as chunks
-length-pairs : (chunks : List (List ℕ)) → All (IsChunk 2) chunks → length (concat chunks) ≡ length chunks * 2
+length-pairs : (chunks : List (List ℕ)) → All (IsChunk 2) chunks → length (flat_map (λ chunk. chunk) chunks) ≡ length chunks * 2
 length-pairs [] pairs = refl
 length-pairs (chunk ∷ chunks) pairs = simp length-append (omega (arith, (All-head (IsChunk 2) chunk chunks pairs).long, length-pairs chunks (All-tail (IsChunk 2) chunk chunks pairs)))
 
 -- every second of their bytes is the first of a chunk
-first_of_pair : (chunks : List (List ℕ)) → All (IsChunk 2) chunks → (i : ℕ) → slice_index (concat chunks) (2 * i) ≡ slice_index (get_or chunks i []) 0
+first_of_pair : (chunks : List (List ℕ)) → All (IsChunk 2) chunks → (i : ℕ) → slice_index (flat_map (λ chunk. chunk) chunks) (2 * i) ≡ slice_index (get_or chunks i []) 0
 first_of_pair [] pairs i = refl
 first_of_pair ([] ∷ chunks) pairs i = absurd (omega (arith, (All-head (IsChunk 2) [] chunks pairs).long))
 first_of_pair ((a ∷ []) ∷ chunks) pairs i = absurd (omega (arith, (All-head (IsChunk 2) (a ∷ []) chunks pairs).long))

@@ -1,8 +1,7 @@
 -- Bytes cut into fields.
-use Rattle.std.proofs.Common.{◌≡◌, ℕ, zero, suc, ◌*◌, ◌≤◌, All, List, ◌++◌, length, take, drop, sym, ap, ◌∙◌, arith}
-use Rattle.std.specs.List.{concat}
+use Rattle.std.proofs.Common.{◌≡◌, ℕ, zero, suc, ◌*◌, ◌≤◌, All, List, ◌++◌, length, take, drop, sym, arith}
 use Rattle.std.specs.Simd.{first_chunks}
-use Rattle.std.proofs.lemmas.List.{length-drop, length-take-le, nil_from_length, take-append-drop}
+use Rattle.std.proofs.lemmas.List.{length-drop, length-take-le, take-append-drop}
 use Rattle.std.proofs.lemmas.List.Elements.{All-cons, All-nil}
 use Rattle.std.proofs.lemmas.Option.{slice_get-map, slice_get_read}
 use Rattle.hexlines.specs.Hex.{Bytes}
@@ -24,13 +23,6 @@ chunks-are n (suc k) bytes small long =
     let rest : k * n ≤ length (drop n bytes) = omega (arith, length-drop n bytes) in
     let chunk : IsChunk n (take n bytes) = record { long = length-take-le n bytes first; small = Bytes-take n bytes small } in
     All-cons (IsChunk n) (take n bytes) (first_chunks n k (drop n bytes)) chunk (chunks-are n k (drop n bytes) (Bytes-drop n bytes small) rest)
-
--- chunks of all the bytes, joined, are the bytes
-pub concat-first_chunks : (n k : ℕ) (bytes : List ℕ) → length bytes ≡ k * n → concat (first_chunks n k bytes) ≡ bytes
-concat-first_chunks n zero bytes long = sym (nil_from_length bytes (omega arith))
-concat-first_chunks n (suc k) bytes long =
-    let rest : length (drop n bytes) ≡ k * n = omega (arith, length-drop n bytes) in
-    ap (λ s. take n bytes ++ s) (concat-first_chunks n k (drop n bytes) rest) ∙ take-append-drop n bytes
 
 -- an element of a mapped list is made of the list's
 pub ruleset mapped_element = (slice_get-map, slice_get_read)

@@ -1,6 +1,6 @@
 -- The entries of a frame's list, N bytes for each.
 use Rattle.std.specs.Prelude.{◌≡◌, ℕ, All, List, length, map}
-use Rattle.std.specs.List.{concat}
+use Rattle.std.specs.List.{flat_map}
 use Rattle.hexlines.specs.Hex.{Bytes}
 use Rattle.frames.specs.declared.entries.Entries.{Entries}
 use Rattle.frames.specs.declared.entries.EntriesIter.{EntriesIter}
@@ -21,4 +21,4 @@ pub record IsChunk (n : ℕ) (chunk : List ℕ) : Type 0 where
 -- the bytes of the list's entries, one behind another, are just these
 pub record IsEntriesOf {T : Type 0} {N : ℕ} (bytes : List ℕ) (e : Entries T N) : Type 0 where
   pub each : All (IsChunk N) e.chunks.now
-  pub joined : concat e.chunks.now ≡ bytes
+  pub joined : flat_map (λ chunk. chunk) e.chunks.now ≡ bytes

@@ -1,5 +1,5 @@
 pub mod Bytes
 pub mod Back
-mod Chunks
+pub mod Chunks
 pub mod Spelling
 mod Splitting

@@ -1,6 +1,8 @@
-use Rattle.std.proofs.Common.{rules, ◌≡◌, ◌*◌, ◌/◌, ◌≤◌, length, arith}
+use Rattle.std.proofs.Common.{rules, ◌≡◌, ◌*◌, ◌/◌, ◌≤◌, length, ◌∙◌, arith}
 use Rattle.std.proofs.lemmas.Nat.{div-add-mod'}
-use Rattle.frames.proofs.Fields.{chunks-are, concat-first_chunks}
+use Rattle.std.proofs.lemmas.List.{take_all}
+use Rattle.hexlines.proofs.Chunks.{flat_map-first_chunks}
+use Rattle.frames.proofs.Fields.{chunks-are}
 use Rattle.frames.proofs.entries.Entries.of.Goals as goal
 
 pub returns : goal.returns
@@ -12,5 +14,5 @@ returns g c =
     let within : count * g.row.N ≤ length bytes = omega arith in
     rw c.as_chunks.ensures.front (record {
       each = chunks-are g.row.N count bytes (λ k. (c.type_inv.bytes k).fits) within;
-      joined = concat-first_chunks g.row.N count bytes whole;
+      joined = flat_map-first_chunks g.row.N count bytes ∙ take_all (count * g.row.N) bytes (omega arith);
     })
