@@ -1,13 +1,13 @@
 -- Laws of the table of answers: its bytes are bytes, and no two answers have the same ones.
-use Rattle.std.proofs.Common.{◌≡◌, ℕ, ◌^◌, ◌<◌, All, cond, eqb, List, [], ◌∷◌, ◌++◌, length, get_or, drop, ℤ, refl, ap, ◌∙◌, arith}
+use Rattle.std.proofs.Common.{◌≡◌, ℕ, ◌/◌, ◌^◌, ◌<◌, All, cond, eqb, List, [], ◌∷◌, ◌++◌, length, get_or, drop, ℤ, refl, ap, ◌∙◌, arith}
 use Rattle.std.specs.Int.{w16, w32, bytes_high_first, cast_unsigned, from_be_bytes, to_be_bytes}
 use Rattle.std.specs.List.{flat_map}
-use Rattle.std.proofs.lemmas.List.Elements.{All-head, All-tail}
 use Rattle.std.proofs.lemmas.Nat.{from_be_bytes-to_be_bytes_2, from_be_bytes-to_be_bytes_4}
 use Rattle.refusals.specs.Numbers.{layer_number, reason_layer, reason_number, refusal_at}
 use Rattle.refusals.proofs.Numbers.{layer_below, reason_at, reason_back, reason_below}
 use Rattle.values.specs.Bytes.{bytes_of_number, number_of_bytes}
 use Rattle.hexlines.specs.Hex.{Bytes}
+use Rattle.hexlines.proofs.Chunks.{length-entries, list_back, list_in}
 use Rattle.hexlines.proofs.Bytes.{Bytes-nil, Bytes-cons, Bytes-append, Bytes-high_first, Bytes-flat_map}
 use Rattle.calls.specs.Answers.{Answered, begun, asked, settled, granted, finished, cleared, abandoned, ring_listed, owing_listed, refused}
 use Rattle.calls.specs.declared.asked.Asked.{Asked}
@@ -81,9 +81,7 @@ finished_at : ℕ → ℕ → Finished
 finished_at code serial = cond (eqb code 0) (Cleared serial) Owing
 
 abbrev numbers_in : List ℕ → List ℕ
-numbers_in [] = []
-numbers_in (a ∷ []) = []
-numbers_in (a ∷ b ∷ bytes) = from_be_bytes w16 (a ∷ b ∷ []) ∷ numbers_in bytes
+numbers_in bytes = list_in 2 (from_be_bytes w16) bytes
 
 answer_in : List ℕ → ℕ → Answered ℤ
 answer_in s kind =
@@ -122,11 +120,9 @@ finished_back (Cleared serial) = refl
 finished_back Owing = refl
 
 numbers_back : (numbers : List ℕ) → All (λ n. n < 2 ^ 16) numbers → numbers_in (flat_map (to_be_bytes w16) numbers) ≡ numbers
-numbers_back [] fit = refl
-numbers_back (n ∷ numbers) fit =
-    let first = from_be_bytes-to_be_bytes_2 n (All-head (λ m. m < 2 ^ 16) n numbers fit) in
-    let rest = numbers_back numbers (All-tail (λ m. m < 2 ^ 16) n numbers fit) in
-    cc
+numbers_back numbers fit =
+    let count : length (flat_map (to_be_bytes w16) numbers) / 2 ≡ length numbers = omega (arith, length-entries 2 (to_be_bytes w16) (λ n. refl) numbers) in
+    list_back 2 (to_be_bytes w16) (λ n. refl) (from_be_bytes w16) numbers count (λ k d within. from_be_bytes-to_be_bytes_2 (get_or numbers k d) (fit k d within))
 
 answer_back : (a : Answered ℤ) → AnswerFits a → answer_in (answer_bytes a) (get_or (answer_bytes a) 0 0) ≡ a
 unfolding answer_in

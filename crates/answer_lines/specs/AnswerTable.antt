@@ -14,6 +14,7 @@ use Rattle.calls.specs.declared.granted.GrantedLock.TheVariants.{Read, Write, Se
 use Rattle.calls.specs.declared.granted.Schedule.{Schedule}
 use Rattle.calls.specs.declared.granted.Schedule.TheVariants.{Normal, PreScheduled}
 
+-- the code of where ask put a request
 abbrev pub asked_code : Asked → ℕ
 asked_code (Own place) = 0
 asked_code (Moved place) = 1
@@ -27,15 +28,18 @@ asked_timestamp (Moved place) = place
 asked_timestamp (Last place) = place
 asked_timestamp (Away bar) = bar
 
+-- the code of a granted lock
 abbrev pub lock_code : GrantedLock → ℕ
 lock_code Read = 0
 lock_code Write = 1
 lock_code SemiRead = 2
 
+-- the code of whether a conflicting lock granted earlier still stands
 abbrev pub schedule_code : Schedule → ℕ
 schedule_code Normal = 0
 schedule_code PreScheduled = 1
 
+-- the code of where finish put a transaction
 abbrev pub finished_code : Finished → ℕ
 finished_code (Cleared serial) = 0
 finished_code Owing = 1
@@ -45,10 +49,11 @@ abbrev pub finished_serial : Finished → ℕ
 finished_serial (Cleared serial) = serial
 finished_serial Owing = 0
 
--- a place is written in to_be_bytes w16 bytes; no frame leads to one that they do not hold
+-- a place is written in two bytes; no frame leads to one that they do not hold
 abbrev pub written_place : ℕ → ℕ
 written_place place = min place 65535
 
+-- the bytes of an answer: its kind, and its fields behind it
 abbrev pub answer_bytes : Answered ℤ → List ℕ
 answer_bytes (begun number) = 0x81 ∷ to_be_bytes w16 number
 answer_bytes (asked a) = 0x82 ∷ asked_code a ∷ to_be_bytes w32 (asked_timestamp a)

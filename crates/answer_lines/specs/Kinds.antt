@@ -3,6 +3,7 @@ use Rattle.std.specs.Prelude.{ℕ}
 use Rattle.answer_lines.specs.declared.kinds.AnswerKind.{AnswerKind}
 use Rattle.answer_lines.specs.declared.kinds.AnswerKind.TheVariants.{Refused, Begun, Asked, Settled, Granted, Finished, Cleared, Abandoned, Ring, Owing}
 
+-- the number of a kind
 abbrev pub kind_number : AnswerKind → ℕ
 kind_number Refused = 0x00
 kind_number Begun = 0x81

@@ -1,5 +1,5 @@
 // The kinds of answer, by the byte that their lines begin with.
-#[derive(Clone, Copy)]
+#[derive(Clone, Copy, PartialEq, Eq, Debug)]
 pub enum AnswerKind {
     Refused = 0x00,
     Begun = 0x81,

@@ -63,7 +63,7 @@ fn finished(finished: Finished) -> LineBytes
 fn written_place(place: usize) -> u16
     ensures { result ≡ written_place place }
 {
-    place.min(65_535) as u16
+    u16::try_from(place).unwrap_or(u16::MAX)
 }
 
 fn refused(refusal: Refusal) -> LineBytes
@@ -81,6 +81,7 @@ fn listed(kind: AnswerKind, numbers: &[u16]) -> LineBytes
     ensures value { result.items ≡ kind_number kind ∷ length numbers.now ∷ flat_map (to_be_bytes w16) numbers.now }
     ensures small { All (λ n. n < 2 ^ 16) numbers.now }
 {
+    // no u8::try_from: its error could never come
     let mut bytes = FixedList::of(&[kind as u8, numbers.len() as u8], 0);
     for number in numbers {
         bytes.extend(&number.to_be_bytes());

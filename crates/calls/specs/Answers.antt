@@ -8,6 +8,7 @@ use Rattle.calls.specs.declared.granted.Schedule.{Schedule}
 use Rattle.calls.specs.declared.asked.Asked.{Asked as AskedT}
 use Rattle.calls.specs.declared.finished.Finished.{Finished as FinishedT}
 
+-- what is answered, a refusal among the rest
 pub data Answered (V : Type 0) : Type 0 where
   begun : (number : ℕ) → Answered V
   asked : AskedT → Answered V
@@ -20,6 +21,7 @@ pub data Answered (V : Type 0) : Type 0 where
   owing_listed : (numbers : List ℕ) → Answered V
   refused : Refusal → Answered V
 
+-- what a reply says
 abbrev pub says : {V : Type 0} → Result (Answer V) Refusal → Answered V
 says (Ok (Begun number)) = begun number
 says (Ok (Asked a)) = asked a

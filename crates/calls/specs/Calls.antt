@@ -2,6 +2,7 @@
 use Rattle.std.specs.Prelude.{List, ℕ}
 use Rattle.calls.specs.declared.access.Access.{Access}
 
+-- one of the nine calls
 pub data Call (V : Type 0) : Type 0 where
   begin : (protocol site timestamp interval : ℕ) (accesses : List Access) → Call V
   ask : (number item : ℕ) → Call V

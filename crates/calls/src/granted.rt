@@ -3,16 +3,16 @@
 // A write lock can become a semi-write lock later; none is granted as one.
 #[derive(Clone, Copy, PartialEq, Eq, Debug)]
 pub enum GrantedLock {
-    Read,
-    Write,
-    SemiRead,
+    Read = 0,
+    Write = 1,
+    SemiRead = 2,
 }
 
 #[derive(Clone, Copy, PartialEq, Eq, Debug)]
 pub enum Schedule {
     // no conflicting lock that was granted earlier still stands
-    Normal,
-    PreScheduled,
+    Normal = 0,
+    PreScheduled = 1,
 }
 
 #[derive(Clone, Copy, PartialEq, Eq, Debug)]

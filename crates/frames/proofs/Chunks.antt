@@ -13,7 +13,7 @@ use Rattle.values.specs.Bytes.{bytes_of_number, number_of_bytes, Signed32}
 use Rattle.calls.specs.declared.access.Access.{Access}
 use Rattle.frames.specs.declared.entries.Entries.{Entries}
 use Rattle.frames.specs.declared.malformed.Malformed.{Malformed}
-use Rattle.frames.specs.declared.malformed.Malformed.TheVariants.{Length, Mode}
+use Rattle.frames.specs.declared.malformed.Malformed.TheVariants.{Length, BadMode}
 use Rattle.frames.specs.Table.{access_bytes, mode_code}
 use Rattle.frames.specs.Fields.{access_in, mode_of}
 use Rattle.frames.specs.Entries.{IsChunk, IsEntriesOf}
@@ -44,7 +44,7 @@ values_in bytes v entries =
 pub values_from : (bytes : List ℕ) (r : Result (Entries ℤ 4) Malformed) → MatchResult r (IsEntriesOf bytes) (λ e. (e ≡ Length) × (length bytes % 4 ≢ 0)) → ValuesIn bytes r
 values_from bytes (Ok v) entries = values_in bytes v entries
 values_from bytes (Err Length) wrong = wrong.1
-values_from bytes (Err (Mode i)) wrong = let e = wrong.0 in cc
+values_from bytes (Err (BadMode i)) wrong = let e = wrong.0 in cc
 
 mode_spelled : (code : ℕ) → code ≤ 1 → mode_code (mode_of code) ≡ code
 mode_spelled zero h = refl
@@ -93,7 +93,7 @@ first_of_pair ((a ∷ b ∷ []) ∷ chunks) pairs (suc i) =
     rw twice (first_of_pair chunks (All-tail (IsChunk 2) (a ∷ b ∷ []) chunks pairs) i)
 first_of_pair ((a ∷ b ∷ c ∷ s) ∷ chunks) pairs i = absurd (omega (arith, (All-head (IsChunk 2) (a ∷ b ∷ c ∷ s) chunks pairs).long))
 
-pub bad_mode_in : (bytes : List ℕ) (a : Entries Access 2) → IsEntriesOf bytes a → (i : ℕ) → position bad a.chunks.now ≡ Some i → AccessesIn bytes (Err (Mode i))
+pub bad_mode_in : (bytes : List ℕ) (a : Entries Access 2) → IsEntriesOf bytes a → (i : ℕ) → position bad a.chunks.now ≡ Some i → AccessesIn bytes (Err (BadMode i))
 bad_mode_in bytes a entries i found =
     let first = position-Some bad a.chunks.now i [] found in
     let long : length bytes ≡ length a.chunks.now * 2 = sym (ap length entries.joined) ∙ length-pairs a.chunks.now entries.each in

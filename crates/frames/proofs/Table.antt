@@ -1,12 +1,11 @@
 -- Laws of the table of frames: how long a call's frame is, that its modes are modes, and that no other call has the same frame.
-use Rattle.std.proofs.Common.{◌≡◌, ℕ, zero, suc, ◌*◌, ◌/◌, ◌<◌, ◌≤◌, All, List, [], ◌∷◌, ◌++◌, length, map, get_or, slice_index, drop, ℤ, sym, refl, ap, ◌∙◌, arith, w16, w32, length-append}
+use Rattle.std.proofs.Common.{◌≡◌, ℕ, zero, suc, ◌*◌, ◌/◌, ◌<◌, ◌≤◌, All, List, [], ◌∷◌, ◌++◌, length, get_or, slice_index, drop, ℤ, sym, refl, ap, ◌∙◌, arith, w16, w32}
 use Rattle.std.specs.Int.{cast_unsigned, from_be_bytes, to_be_bytes}
 use Rattle.std.specs.List.{flat_map}
-use Rattle.std.specs.Simd.{first_chunks}
-use Rattle.std.proofs.lemmas.List.{drop_at, take_at}
-use Rattle.std.proofs.lemmas.List.Elements.{All-head, All-tail, All-weaker}
+use Rattle.std.proofs.lemmas.List.Elements.{All-weaker}
 use Rattle.std.proofs.lemmas.Nat.{from_be_bytes-to_be_bytes_2, from_be_bytes-to_be_bytes_4}
 use Rattle.hexlines.specs.Hex.{Bytes}
+use Rattle.hexlines.proofs.Chunks.{length-entries, list_back, list_in}
 use Rattle.protocols.specs.declared.question.Mode.{Mode}
 use Rattle.protocols.specs.declared.question.Mode.TheVariants.{Read, Write}
 use Rattle.values.specs.Bytes.{bytes_of_number, number_of_bytes, Signed32}
@@ -37,22 +36,6 @@ kind_back Owing = refl
 
 pub same_kind : (k l : FrameKind) → kind_number k ≡ kind_number l → k ≡ l
 same_kind k l e = sym (kind_back k) ∙ ap kind_at e ∙ kind_back l
-
--- a list whose entries have n bytes each, by the value that each n bytes spell
-unfoldable pub list_in : {T : Type 0} → ℕ → (List ℕ → T) → List ℕ → List T
-list_in n value_of bytes = map value_of (first_chunks n (length bytes / n) bytes)
-
-module _ {T : Type 0} (n : ℕ) (bytes_of : T → List ℕ) (long : (x : T) → length (bytes_of x) ≡ n) where
-  length-entries : (xs : List T) → length (flat_map bytes_of xs) ≡ length xs * n
-  length-entries [] = omega arith
-  length-entries (x ∷ xs) = simp length-append (omega (arith, long x, length-entries xs))
-
-  chunks_back : (xs : List T) → first_chunks n (length xs) (flat_map bytes_of xs) ≡ map bytes_of xs
-  chunks_back [] = refl
-  chunks_back (x ∷ xs) =
-      let first = take_at (bytes_of x) (flat_map bytes_of xs) n (long x) in
-      let behind = drop_at (bytes_of x) (flat_map bytes_of xs) n (long x) in
-      rw (first, behind) (ap (λ s. bytes_of x ∷ s) (chunks_back xs))
 
 length-access_bytes : (accesses : List Access) → length (flat_map access_bytes accesses) ≡ length accesses * 2
 length-access_bytes accesses = length-entries 2 access_bytes (λ a. refl) accesses
@@ -86,31 +69,18 @@ mode_back : (m : Mode) → mode_of (mode_code m) ≡ m
 mode_back Read = refl
 mode_back Write = refl
 
+access_back : (a : Access) → access_in (access_bytes a) ≡ a
+access_back a = ap (λ m. record { mode = m; item = a.item }) (mode_back a.mode)
+
 accesses_back : (accesses : List Access) → list_in 2 access_in (flat_map access_bytes accesses) ≡ accesses
-unfolding list_in
 accesses_back accesses =
     let count : length (flat_map access_bytes accesses) / 2 ≡ length accesses = omega (arith, length-access_bytes accesses) in
-    rw (count, chunks_back 2 access_bytes (λ a. refl) accesses) (each_access_back accesses)
-  where
-    each_access_back : (accesses : List Access) → map access_in (map access_bytes accesses) ≡ accesses
-    each_access_back [] = refl
-    each_access_back (a ∷ accesses) =
-        let first : access_in (access_bytes a) ≡ a = ap (λ m. record { mode = m; item = a.item }) (mode_back a.mode) in
-        let rest = each_access_back accesses in
-        cc
+    list_back 2 access_bytes (λ a. refl) access_in accesses count (λ k d _. access_back (get_or accesses k d))
 
 values_back : (values : List ℤ) → All Signed32 values → list_in 4 number_of_bytes (flat_map bytes_of_number values) ≡ values
-unfolding list_in
 values_back values signed =
     let count : length (flat_map bytes_of_number values) / 4 ≡ length values = omega (arith, length-value_bytes values) in
-    rw (count, chunks_back 4 bytes_of_number (λ v. refl) values) (each_value_back values signed)
-  where
-    each_value_back : (values : List ℤ) → All Signed32 values → map number_of_bytes (map bytes_of_number values) ≡ values
-    each_value_back [] signed = refl
-    each_value_back (v ∷ values) signed =
-        let first = All-head Signed32 v values signed in
-        let rest = each_value_back values (All-tail Signed32 v values signed) in
-        cc
+    list_back 4 bytes_of_number (λ v. refl) number_of_bytes values count signed
 
 call_in : List ℕ → FrameKind → Call ℤ
 call_in s Begin = begin (slice_index s 1) (slice_index s 2) (from_be_bytes w32 (drop 3 s)) (from_be_bytes w32 (drop 7 s)) (list_in 2 access_in (drop 11 s))

@@ -9,7 +9,7 @@ use Rattle.frames.specs.Fields.{access_in}
 use Rattle.frames.specs.Entries.{entries_of}
 use Rattle.frames.specs.declared.entries.Entries.{Entries}
 use Rattle.frames.specs.declared.malformed.Malformed.{Malformed}
-use Rattle.frames.specs.declared.malformed.Malformed.TheVariants.{Length, Mode}
+use Rattle.frames.specs.declared.malformed.Malformed.TheVariants.{Length, BadMode}
 use Rattle.frames.specs.declared.frame.Frame.{Frame}
 use Rattle.frames.specs.declared.frame.Frame.TheVariants.{Begin, Ask, Settle, Grant, Finish, Clear, Abandon, Ring, Owing}
 
@@ -43,10 +43,10 @@ pub record FirstBadMode (bytes : List ℕ) (i : ℕ) : Type 0 where
 abbrev pub ValuesIn : List ℕ → Result (Entries ℤ 4) Malformed → Type 0
 ValuesIn bytes (Ok v) = (bytes ≡ flat_map bytes_of_number (values_of v)) × All Signed32 (values_of v)
 ValuesIn bytes (Err Length) = length bytes % 4 ≢ 0
-ValuesIn bytes (Err (Mode i)) = ⊥
+ValuesIn bytes (Err (BadMode i)) = ⊥
 
 -- bytes that are accesses, two for each
 abbrev pub AccessesIn : List ℕ → Result (Entries Access 2) Malformed → Type 0
 AccessesIn bytes (Ok a) = (bytes ≡ flat_map access_bytes (accesses_of a)) × All (λ x. x.item < 256) (accesses_of a)
 AccessesIn bytes (Err Length) = length bytes % 2 ≢ 0
-AccessesIn bytes (Err (Mode i)) = (length bytes % 2 ≡ 0) × FirstBadMode bytes i
+AccessesIn bytes (Err (BadMode i)) = (length bytes % 2 ≡ 0) × FirstBadMode bytes i

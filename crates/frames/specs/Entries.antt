@@ -9,9 +9,9 @@ use Rattle.frames.specs.declared.entries.EntriesIter.{EntriesIter}
 abbrev pub entries_of : {T : Type 0} {N : ℕ} → (List ℕ → T) → Entries T N → List T
 entries_of value_of e = map value_of e.chunks.now
 
--- the values of the chunks that an iterator has left
+-- the entries that an iterator has left
 abbrev pub entries_left : {T : Type 0} {N : ℕ} → (List ℕ → T) → EntriesIter T N → List T
-entries_left value_of iter = map value_of iter.chunks.now
+entries_left value_of iter = entries_of value_of iter.left
 
 -- n bytes
 pub record IsChunk (n : ℕ) (chunk : List ℕ) : Type 0 where

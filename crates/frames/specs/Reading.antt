@@ -7,7 +7,7 @@ use Rattle.frames.specs.declared.frame.Frame.{Frame}
 use Rattle.frames.specs.declared.kinds.FrameKind.{FrameKind}
 use Rattle.frames.specs.declared.kinds.FrameKind.TheVariants.{Begin}
 use Rattle.frames.specs.declared.malformed.Malformed.{Malformed}
-use Rattle.frames.specs.declared.malformed.Malformed.TheVariants.{Length, Mode}
+use Rattle.frames.specs.declared.malformed.Malformed.TheVariants.{Length, BadMode}
 use Rattle.frames.specs.Kinds.{kind_number}
 use Rattle.frames.specs.Table.{call_bytes, fixed_length, Fits, RightLength}
 use Rattle.frames.specs.Borrowed.{FirstBadMode, frame_call}
@@ -22,7 +22,7 @@ pub data Unframed (bytes : List ℕ) (e : Refusal) : Type 0 where
 abbrev pub FieldsOf : FrameKind → List ℕ → Result Frame Malformed → Type 0
 FieldsOf kind bytes (Ok f) = (kind_number kind ∷ bytes ≡ call_bytes (frame_call f)) × Fits (frame_call f)
 FieldsOf kind bytes (Err Length) = ¬ RightLength kind (suc (length bytes))
-FieldsOf kind bytes (Err (Mode i)) = (kind ≡ Begin) × RightLength Begin (suc (length bytes)) × FirstBadMode (drop (fixed_length Begin) (kind_number kind ∷ bytes)) i
+FieldsOf kind bytes (Err (BadMode i)) = (kind ≡ Begin) × RightLength Begin (suc (length bytes)) × FirstBadMode (drop (fixed_length Begin) (kind_number kind ∷ bytes)) i
 
 -- what bytes are read as
 abbrev pub FrameOf : List ℕ → Result Frame Refusal → Type 0

@@ -5,7 +5,7 @@ ghost use Rattle.frames.specs.Borrowed.{AccessesIn, ValuesIn};
 ghost use Rattle.frames.specs.Entries.{IsEntriesOf};
 
 use crate::entries::{Accesses, Entries, Values};
-use crate::field::{Field, Number};
+use crate::field::{Field, Unsigned};
 use crate::malformed::Malformed;
 use std::marker::Model;
 
@@ -23,7 +23,7 @@ impl<'a> Model for Cursor<'a> {
 }
 
 // The field that bytes begin with, and the bytes behind it.
-fn first_field<T: Number<N>, const N: usize>(bytes: &[u8]) -> Option<(T, &[u8])>
+fn first_field<T: Unsigned<N>, const N: usize>(bytes: &[u8]) -> Option<(T, &[u8])>
     ensures { MatchOption result (length bytes.now < N) (λ p. bytes.now ≡ T.bytes_of p.0 ++ p.1.now) }
 {
     let (front, rest) = bytes.split_first_chunk()?;
@@ -38,7 +38,7 @@ impl<'a> Cursor<'a> {
     }
 
     // The next field, which stands before the rest.
-    pub fn take<T: Number<N>, const N: usize>(&mut self) -> Result<T, Malformed>
+    pub fn take<T: Unsigned<N>, const N: usize>(&mut self) -> Result<T, Malformed>
         ensures { MatchResult result (λ value. self.old ≡ T.bytes_of value ++ self.new) (λ e. (e ≡ Length) × (length self.old < N)) }
     {
         let (value, rest) = first_field(self.rest).ok_or(Malformed::Length)?;
@@ -71,7 +71,7 @@ impl<'a> Cursor<'a> {
     {
         let accesses: Accesses<'a> = self.entries()?;
         match accesses.bad_mode() {
-            Some(i) => Err(Malformed::Mode(i)),
+            Some(i) => Err(Malformed::BadMode(i)),
             None => Ok(accesses),
         }
     }

@@ -1,4 +1,4 @@
-// A frame in words, on one line. No clause speaks of how a list is printed.
+// A frame in words, on one line. No clause speaks of how a list is printed: the lists' words are for people, and a test shows them.
 ghost use Rattle.frames.specs.Text.{frame_text};
 
 use crate::entries::{Accesses, Values};
@@ -6,26 +6,22 @@ use crate::frame::Frame;
 use protocols::Mode;
 use std::fmt;
 
-impl fmt::Display for Accesses<'_> {
-    fn fmt<W: fmt::Write>(&self, f: &mut fmt::Formatter<W>) -> fmt::Result {
-        for access in *self {
-            let item = access.item;
-            match access.mode {
-                Mode::Read => write!(f, " read {item}")?,
-                Mode::Write => write!(f, " write {item}")?,
-            }
+fn write_accesses<W: fmt::Write>(f: &mut fmt::Formatter<W>, accesses: Accesses<'_>) -> fmt::Result {
+    for access in accesses {
+        let item = access.item;
+        match access.mode {
+            Mode::Read => write!(f, " read {item}")?,
+            Mode::Write => write!(f, " write {item}")?,
         }
-        Ok(())
     }
+    Ok(())
 }
 
-impl fmt::Display for Values<'_> {
-    fn fmt<W: fmt::Write>(&self, f: &mut fmt::Formatter<W>) -> fmt::Result {
-        for value in *self {
-            write!(f, " {value}")?;
-        }
-        Ok(())
+fn write_values<W: fmt::Write>(f: &mut fmt::Formatter<W>, values: Values<'_>) -> fmt::Result {
+    for value in values {
+        write!(f, " {value}")?;
     }
+    Ok(())
 }
 
 impl fmt::Display for Frame<'_> {
@@ -39,14 +35,20 @@ impl fmt::Display for Frame<'_> {
                 timestamp,
                 interval,
                 accesses,
-            } => write!(
-                f,
-                "begin protocol {protocol} site {site} timestamp {timestamp} interval {interval}:{accesses}"
-            ),
+            } => {
+                write!(
+                    f,
+                    "begin protocol {protocol} site {site} timestamp {timestamp} interval {interval}:"
+                )?;
+                write_accesses(f, accesses)
+            }
             Frame::Ask { number, item } => write!(f, "ask {number} for item {item}"),
             Frame::Settle { number } => write!(f, "settle {number}"),
             Frame::Grant { item } => write!(f, "grant item {item}"),
-            Frame::Finish { number, values } => write!(f, "finish {number}:{values}"),
+            Frame::Finish { number, values } => {
+                write!(f, "finish {number}:")?;
+                write_values(f, values)
+            }
             Frame::Clear { number } => write!(f, "clear {number}"),
             Frame::Abandon { number } => write!(f, "abandon {number}"),
             Frame::Ring => write!(f, "ring"),

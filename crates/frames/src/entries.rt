@@ -71,18 +71,14 @@ impl<'a, T: Field<N>, const N: usize> IntoIterator for Entries<'a, T, N> {
     ghost into_iter_gives = { λ entries iter. entries_left T.value_of iter ≡ entries_of T.value_of entries };
 
     fn into_iter(self) -> EntriesIter<'a, T, N> {
-        EntriesIter {
-            chunks: self.chunks,
-            entry: PhantomData,
-        }
+        EntriesIter { left: self }
     }
 }
 
 // The entries of a list, one after another.
 #[derive(Drop)]
 pub struct EntriesIter<'a, T: Field<N>, const N: usize> {
-    chunks: &'a [[u8; N]],
-    entry: PhantomData<T>,
+    left: Entries<'a, T, N>,
 }
 
 impl<'a, T: Field<N>, const N: usize> Iterator for EntriesIter<'a, T, N> {
@@ -96,8 +92,8 @@ impl<'a, T: Field<N>, const N: usize> Iterator for EntriesIter<'a, T, N> {
     ghost remaining = { item_count (entries_left T.value_of) };
 
     fn next(&mut self) -> Option<T> {
-        let (first, rest) = self.chunks.split_first()?;
-        self.chunks = rest;
+        let (first, rest) = self.left.chunks.split_first()?;
+        self.left.chunks = rest;
         Some(T::from_bytes(first))
     }
 }

@@ -11,6 +11,7 @@ use calls::Access;
 use protocols::Mode;
 use values::number_of_bytes;
 
+// The kinds of field are those below: the trait is not handed out, so no other can be read.
 pub trait Field<const N: usize>: Copy {
     // the value that bytes spell
     ghost value_of: { List ℕ → Self };
@@ -18,12 +19,12 @@ pub trait Field<const N: usize>: Copy {
     fn from_bytes(bytes: &[u8; N]) -> Self
         ensures { result ≡ value_of bytes.entry.now };
 
-    // so short that arrays of it have room
+    // as_chunks asks the one, and that arrays of N bytes exist the other
     ghost sized: { (0 < N) × (N < 2 ^ 63) };
 }
 
 // A field that every N bytes spell, each in its own way.
-pub trait Number<const N: usize>: Field<N> {
+pub trait Unsigned<const N: usize>: Field<N> {
     // the bytes that spell a number
     ghost bytes_of: { Self → List ℕ };
 
@@ -40,7 +41,7 @@ impl Field<1> for u8 {
     }
 }
 
-impl Number<1> for u8 {
+impl Unsigned<1> for u8 {
     ghost bytes_of = { λ n. n ∷ [] };
 
     ghost spelled = { one_byte };
@@ -56,7 +57,7 @@ impl Field<2> for u16 {
     }
 }
 
-impl Number<2> for u16 {
+impl Unsigned<2> for u16 {
     ghost bytes_of = { to_be_bytes w16 };
 
     ghost spelled = { λ bytes two small. be_bytes_2 bytes _ two small refl };
@@ -72,7 +73,7 @@ impl Field<4> for u32 {
     }
 }
 
-impl Number<4> for u32 {
+impl Unsigned<4> for u32 {
     ghost bytes_of = { to_be_bytes w32 };
 
     ghost spelled = { λ bytes four small. be_bytes_4 bytes _ four small refl };

@@ -19,7 +19,7 @@ pub enum FrameKind {
     Owing,
 }
 
-// No kind has this number.
+// That a line begins with the number of no kind, or with no byte at all.
 #[derive(Clone, Copy, PartialEq, Eq, Debug)]
 pub struct UnknownKind;
 

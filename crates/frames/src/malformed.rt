@@ -5,5 +5,5 @@ pub enum Malformed {
     // no frame of the kind is that long
     Length,
     // the mode of the access at this index is no mode
-    Mode(usize),
+    BadMode(usize),
 }

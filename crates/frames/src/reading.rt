@@ -58,6 +58,6 @@ pub fn frame_of(bytes: &[u8]) -> Result<Frame<'_>, Refusal>
     match frame_fields(kind, rest) {
         Ok(frame) => Ok(frame),
         Err(Malformed::Length) => Err(Reason::WrongLength.at(bytes.len())),
-        Err(Malformed::Mode(i)) => Err(Reason::BadMode.at(BEGIN_BYTES + 2 * i)),
+        Err(Malformed::BadMode(i)) => Err(Reason::BadMode.at(BEGIN_BYTES + 2 * i)),
     }
 }

@@ -14,6 +14,6 @@ not_refused line e (not_digit i _ first _) bytes small short same =
     first.other (All-get_or Digit line i 0 first.within digits)
 not_refused line e (odd _ _ uneven _) bytes small short same = omega (arith, ap length same, length-hex bytes)
 
-pub back : (line : List ℕ) (r : Result (FixedList ℕ) Refusal) → DecodeOf line r → Back line r
+pub back : (line : List ℕ) (r : Result (FixedList ℕ 70) Refusal) → DecodeOf line r → Back line r
 back line (Ok d) p = λ bytes small same. same_from_hex d.items bytes p.2 small (sym p.1 ∙ same)
 back line (Err e) p = not_refused line e p

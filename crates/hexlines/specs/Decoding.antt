@@ -19,11 +19,11 @@ pub data Undecoded (line : List ℕ) (e : Refusal) : Type 0 where
   odd : length line ≤ 140 → All Digit line → length line % 2 ≡ 1 → e ≡ refusal_at NotHexadecimal (length line) → Undecoded line e
 
 -- what decoding a line makes: the bytes that it spells, or why it spells none
-abbrev pub DecodeOf : List ℕ → Result (FixedList ℕ) Refusal → Type 0
+abbrev pub DecodeOf : List ℕ → Result (FixedList ℕ 70) Refusal → Type 0
 DecodeOf line (Ok decoded) = (length line ≤ 140) × (line ≡ hex decoded.items) × Bytes decoded.items
 DecodeOf line (Err e) = Undecoded line e
 
 -- a line that spells bytes is decoded into just these
-abbrev pub Back : List ℕ → Result (FixedList ℕ) Refusal → Type 0
+abbrev pub Back : List ℕ → Result (FixedList ℕ 70) Refusal → Type 0
 Back line (Ok decoded) = (bytes : List ℕ) → Bytes bytes → line ≡ hex bytes → decoded.items ≡ bytes
 Back line (Err e) = (bytes : List ℕ) → Bytes bytes → length bytes ≤ 70 → line ≢ hex bytes

@@ -17,6 +17,6 @@ hex bytes = flat_map byte_digits bytes
 abbrev pub Digit : ℕ → Type 0
 Digit c = (n : ℕ) × (n < 16) × (c ≡ digit n)
 
--- each is below 256 (past the end `slice_index` answers 0)
+-- each is below 256, in the form that std's lemmas on the bytes of numbers take (past the end `slice_index` answers 0)
 abbrev pub Bytes : List ℕ → Type 0
 Bytes bytes = (k : ℕ) → slice_index bytes k < 256

@@ -27,6 +27,7 @@ fn bytes_of(pairs: &[[u8; 2]]) -> LineBytes
 {
     let mut bytes = FixedList::new(0);
     for pair in pairs {
+        // there are no more pairs than places
         let _ = bytes.push(byte_of(*pair));
     }
     bytes

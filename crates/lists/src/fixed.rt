@@ -6,31 +6,39 @@ ghost use Rattle.lists.specs.FixedList.{Pushes, AddsAll};
 use std::alloc::AllocError;
 use std::marker::Model;
 
-#[derive(Copy)]
 pub struct FixedList<T, const N: usize> {
     places: [T; N],
     len: usize,
+    ghost fits: { len ≤ N },
 }
+
+// by hand, since no derive makes a copy of what has a ghost field
+impl<T: Copy, const N: usize> Copy for FixedList<T, N> {}
 
 impl<T, const N: usize> Model for FixedList<T, N> {
     ghost use Rattle.std.specs.Prelude.{◌≡◌, ◌≤◌, ◌++◌, length, take, drop};
     ghost use Rattle.std.proofs.Common.{arith, take-append-drop, length-take-le};
-    ghost use Rattle.lists.specs.FixedList.{FixedList as Items, fixed_list_code};
+    ghost use Rattle.lists.specs.FixedList.{FixedList as Items, fixed_list_code, take_fits};
+    ghost use Rattle.std.specs.Coded.{le_prop};
+    ghost use mathlib.Core.HLevel.{is_prop→PathP};
 
-    ghost Value = { Items T };
+    ghost Value = { Items T N };
 
     ghost coded = { fixed_list_code T.code };
 
-    ghost view = { λ l. record { items = take l.len l.places; spare = drop l.len l.places } };
+    ghost view = { λ l. record { items = take l.len l.places; spare = drop l.len l.places; fits = take_fits l.len l.places l.fits } };
 
-    ghost invariant = { λ l. (l.len ≤ N) × (length l.places ≡ N) };
+    ghost invariant = { λ l. length l.places ≡ N };
 
-    ghost inverse = { λ l. record { places = l.items ++ l.spare; len = length l.items } };
+    ghost inverse = { λ l. record { places = l.items ++ l.spare; len = length l.items; fits = l.fits } };
 
-    ghost inverse_ok = { λ l h i. record {
-      places = take-append-drop l.len l.places i;
-      len = length-take-le l.len l.places (omega (arith, h.0, h.1)) i;
-    } };
+    ghost inverse_ok = { λ l h i.
+        let len = length-take-le l.len l.places (omega (arith, l.fits, h)) in
+        record {
+          places = take-append-drop l.len l.places i;
+          len = len i;
+          fits = is_prop→PathP (λ j. len j ≤ N) (λ j. le_prop) (take_fits l.len l.places l.fits) l.fits i;
+        } };
 }
 
 // A derived clone would promise no more than the items' own clones do. This one is the list itself, and never fails.

@@ -7,8 +7,10 @@ use Rattle.protocols.specs.declared.ordering.Ordering.{Ordering}
 use Rattle.protocols.specs.declared.question.Kind.{Kind}
 use Rattle.protocols.specs.declared.question.Kind.TheVariants.{Lock, Order, Agree}
 
+-- locking, then ordering, then agreement
 abbrev pub delivered_bank : Bank Locking (Bank Ordering Agreement)
 delivered_bank = record { first = record {}; second = record { first = record {}; second = record {} } }
 
+-- the kind of a number, if it is one of the three
 abbrev pub delivered_kind : ℕ → Option Kind
 delivered_kind n = (if n == 0 then Some Lock else (if n == 1 then Some Order else (if n == 2 then Some Agree else None)))

@@ -12,6 +12,7 @@ ordered timestamp bar = (if nat_lt bar timestamp then Own else Away)
 abbrev pub first_above : ℕ → ℕ → ℕ → ℕ
 first_above timestamp interval bar = timestamp + ((bar - timestamp) / interval + 1) * interval
 
+-- a move to a place, unless that passes the limit
 abbrev pub within_limit : ℕ → Placement
 within_limit place = (if nat_le place last_timestamp then Moved place else Away)
 

@@ -2,6 +2,7 @@
 use Rattle.std.specs.Prelude.{ℕ, ◌-◌}
 use Rattle.protocols.specs.declared.question.Question.{Question}
 
+-- the question with its number counted from `before`
 abbrev pub renumbered : ℕ → Question → Question
 renumbered before q =
     record { number = q.number - before; mode = q.mode; timestamp = q.timestamp; interval = q.interval; bar = q.bar }

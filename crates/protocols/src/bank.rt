@@ -19,6 +19,7 @@ impl<A: Protocol, B: Protocol> Bank<A, B> {
     {
         u16::from(number)
             .checked_sub(self.first.numbers())
+            // no u8::try_from: its error could never come
             .map(|behind| behind as u8)
     }
 }

@@ -17,7 +17,7 @@ pub trait Protocol {
     // a function, so equal questions get equal answers
     ghost placed: { Self → Question → Placement };
 
-    // with no default of 1, which could not be proved for any count
+    // no default body of 1: its clause cannot be proved for every count
     fn numbers(&self) -> u16
         ensures { result ≡ count self.now };
 

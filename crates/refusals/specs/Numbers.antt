@@ -6,11 +6,13 @@ use Rattle.refusals.specs.declared.Reason.{Reason}
 use Rattle.refusals.specs.declared.Refusal.{Refusal}
 use Rattle.refusals.specs.declared.Reason.TheVariants.{NoSuchItem, NoRoom, BadTapeRow, LineTooLong, NotHexadecimal, UnknownKind, WrongLength, BadMode}
 
+-- the number of a layer
 abbrev pub layer_number : Layer → ℕ
 layer_number Reader = 1
 layer_number Board = 2
 layer_number Store = 3
 
+-- the layer that refuses for a reason
 abbrev pub reason_layer : Reason → Layer
 reason_layer NoSuchItem = Store
 reason_layer NoRoom = Store
@@ -21,6 +23,7 @@ reason_layer UnknownKind = Reader
 reason_layer WrongLength = Reader
 reason_layer BadMode = Reader
 
+-- the number of a reason
 abbrev pub reason_number : Reason → ℕ
 reason_number NoSuchItem = 20
 reason_number NoRoom = 21
@@ -31,5 +34,6 @@ reason_number UnknownKind = 32
 reason_number WrongLength = 33
 reason_number BadMode = 34
 
+-- the refusal for a reason at a place
 abbrev pub refusal_at : Reason → ℕ → Refusal
 refusal_at reason place = record { reason = reason; place = place }

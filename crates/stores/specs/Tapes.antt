@@ -41,6 +41,7 @@ module _ {R : Type 0} where
     abbrev pub written : List V → List (Entry R) → List V
     written = fold (λ values e. slice_set values e.item (value_of e.value))
 
+-- `kind` says how the values are read from their row forms
 module _ {V R : Type 0} {kind : Ghosts V R} where
   -- the value of each item of a tape
   abbrev pub tape_values : Tape V R kind → List V

@@ -22,7 +22,7 @@ pub type PlanRecord = Plan<f64>;
 // A plan record with each float as its 64 bits, so that rows can be compared and kept byte for byte.
 pub type PlanRow = Plan<u64>;
 
-impl<C: Copy> Plan<C> {
+impl<C> Plan<C> {
     fn map<D, F: Fn(C) -> D>(self, change: F) -> Plan<D>
         requires { F.IsAlwaysCallable change }
         ensures { MapsCoordinates (F.post change) self result }

@@ -7,8 +7,8 @@ returns-in-Err-Length c =
     let wrong = rw c.in-Err-Length.field-0-is at c.in-Err-Length.ensures in
     no_length _ _ _ _ cut.0 c.in_ok-kind.ensures _ wrong c.at.ensures
 
-pub returns-in-Err-Mode : goal.returns-in-Err-Mode
-returns-in-Err-Mode c =
+pub returns-in-Err-BadMode : goal.returns-in-Err-BadMode
+returns-in-Err-BadMode c =
     let cut = rw c.in_ok-number.ensures.ok_part at c.split_first.ensures.cases in
-    let wrong = rw c.in-Err-Mode.field-0-is at c.in-Err-Mode.ensures in
-    no_mode _ _ _ _ cut.0 c.in_ok-kind.ensures _ c.in-Err-Mode.i wrong c.at-in-Err-Mode.ensures
+    let wrong = rw c.in-Err-BadMode.field-0-is at c.in-Err-BadMode.ensures in
+    no_mode _ _ _ _ cut.0 c.in_ok-kind.ensures _ c.in-Err-BadMode.i wrong c.at-in-Err-BadMode.ensures

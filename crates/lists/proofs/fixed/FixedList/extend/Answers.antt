@@ -17,5 +17,5 @@ returns-clause-after g c =
     let same : written ≡ take (g.row.N - len) items = copied ∙ ap (λ n. take n items) c.min-taken.ensures ∙ take_min (g.row.N - len) items in
     let whole = take-append-add (take len places) items (g.row.N - len) in
     let count : length (take len places) + (g.row.N - len) ≡ g.row.N = omega (arith, length-take-le len places (omega arith)) in
-    let held = ap (λ l. l.items) c.self.view_is in
+    let seen = ap (λ l. l.items) c.self.view_is in
     cc
