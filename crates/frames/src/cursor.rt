@@ -46,7 +46,7 @@ impl<'a> Cursor<'a> {
         Ok(value)
     }
 
-    // All that is left, as a list.
+    // All that is left, as a list. That nothing is left then is said of each reading of a list: a word for it would be no shorter.
     fn entries<T: Field<N>, const N: usize>(&mut self) -> Result<Entries<'a, T, N>, Malformed>
         ensures rest { OnOk result (self.new ≡ []) }
         ensures value { MatchResult result (IsEntriesOf self.old) (λ e. (e ≡ Length) × (length self.old % N ≢ 0)) }

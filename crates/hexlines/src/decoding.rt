@@ -33,6 +33,7 @@ fn bytes_of(pairs: &[[u8; 2]]) -> LineBytes
     bytes
 }
 
+// by itself, so that `back` follows from the whole of `value`
 #[tactic(auto, using(crate::proofs::Chunks::joined_chunks))]
 fn bytes_spelled(line: &[u8]) -> Result<LineBytes, Refusal>
     ensures { DecodeOf line.now result }

@@ -14,6 +14,7 @@ pub struct Split<'a> {
     pub rest: &'a [u8],
 }
 
+// by itself, since first_line did not prove over the closure
 fn first_feed(input: &[u8]) -> Option<usize>
     ensures { result ≡ position (λ c. c == LINE_FEED) input.now }
 {
