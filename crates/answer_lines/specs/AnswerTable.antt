@@ -3,6 +3,8 @@ use Rattle.std.specs.Prelude.{ℕ, ◌^◌, ◌<◌, min, All, List, [], ◌∷�
 use Rattle.std.specs.Int.{w16, w32, to_be_bytes}
 use Rattle.std.specs.List.{flat_map}
 use Rattle.refusals.specs.Numbers.{layer_number, reason_layer, reason_number}
+use Rattle.answer_lines.specs.Kinds.{kind_number}
+use Rattle.answer_lines.specs.declared.kinds.AnswerKind.TheVariants.{Refused as RefusedKind, Begun as BegunKind, Asked as AskedKind, Settled as SettledKind, Granted as GrantedKind, Finished as FinishedKind, Cleared as ClearedKind, Abandoned as AbandonedKind, Ring as RingKind, Owing as OwingKind}
 use Rattle.values.specs.Bytes.{bytes_of_number, Signed32}
 use Rattle.calls.specs.Answers.{Answered, begun, asked, settled, granted, finished, cleared, abandoned, ring_listed, owing_listed, refused}
 use Rattle.calls.specs.declared.asked.Asked.{Asked}
@@ -55,16 +57,16 @@ written_place place = min place 65535
 
 -- the bytes of an answer: its kind, and its fields behind it
 abbrev pub answer_bytes : Answered ℤ → List ℕ
-answer_bytes (begun number) = 0x81 ∷ to_be_bytes w16 number
-answer_bytes (asked a) = 0x82 ∷ asked_code a ∷ to_be_bytes w32 (asked_timestamp a)
-answer_bytes (settled timestamp) = 0x83 ∷ to_be_bytes w32 timestamp
-answer_bytes (granted number lock schedule value) = 0x84 ∷ (to_be_bytes w16 number ++ (lock_code lock ∷ schedule_code schedule ∷ bytes_of_number value))
-answer_bytes (finished f) = 0x85 ∷ finished_code f ∷ to_be_bytes w16 (finished_serial f)
-answer_bytes (cleared serial) = 0x86 ∷ to_be_bytes w16 serial
-answer_bytes abandoned = 0x87 ∷ []
-answer_bytes (ring_listed numbers) = 0x88 ∷ length numbers ∷ flat_map (to_be_bytes w16) numbers
-answer_bytes (owing_listed numbers) = 0x89 ∷ length numbers ∷ flat_map (to_be_bytes w16) numbers
-answer_bytes (refused r) = 0x00 ∷ layer_number (reason_layer r.reason) ∷ reason_number r.reason ∷ to_be_bytes w16 (written_place r.place)
+answer_bytes (begun number) = kind_number BegunKind ∷ to_be_bytes w16 number
+answer_bytes (asked a) = kind_number AskedKind ∷ asked_code a ∷ to_be_bytes w32 (asked_timestamp a)
+answer_bytes (settled timestamp) = kind_number SettledKind ∷ to_be_bytes w32 timestamp
+answer_bytes (granted number lock schedule value) = kind_number GrantedKind ∷ (to_be_bytes w16 number ++ (lock_code lock ∷ schedule_code schedule ∷ bytes_of_number value))
+answer_bytes (finished f) = kind_number FinishedKind ∷ finished_code f ∷ to_be_bytes w16 (finished_serial f)
+answer_bytes (cleared serial) = kind_number ClearedKind ∷ to_be_bytes w16 serial
+answer_bytes abandoned = kind_number AbandonedKind ∷ []
+answer_bytes (ring_listed numbers) = kind_number RingKind ∷ length numbers ∷ flat_map (to_be_bytes w16) numbers
+answer_bytes (owing_listed numbers) = kind_number OwingKind ∷ length numbers ∷ flat_map (to_be_bytes w16) numbers
+answer_bytes (refused r) = kind_number RefusedKind ∷ layer_number (reason_layer r.reason) ∷ reason_number r.reason ∷ to_be_bytes w16 (written_place r.place)
 
 -- each field fits its width
 abbrev pub AnswerFits : Answered ℤ → Type 0

@@ -33,7 +33,10 @@ fn show_lines(rt: &HostRuntime, input: &[u8]) -> io::Result<()> {
 
 fn run(rt: &HostRuntime) -> anyhow::Result<()> {
     let mut input = Vec::new(rt.alloc());
-    rt.stdin().take(INPUT_BYTES as u64 + 1).read_to_end(&mut input)?;
+    // one byte more than is read, to see whether there are more; usize has no From into u64
+    rt.stdin()
+        .take(INPUT_BYTES as u64 + 1)
+        .read_to_end(&mut input)?;
     if input.len() > INPUT_BYTES {
         eprintln!(rt; "framecheck: the input past {INPUT_BYTES} bytes is not read")?;
     }

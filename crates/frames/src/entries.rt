@@ -7,7 +7,7 @@ use crate::malformed::Malformed;
 use calls::Access;
 use std::marker::PhantomData;
 
-// That modes are modes is a clause of the reader: a ghost field for it is no plainer, since no struct with one derives Clone, and each definition over it takes the trait's members too.
+// That modes are modes is a clause of the reader: a ghost field for it is no plainer, since each definition over the struct would take the trait's members too.
 #[derive(Clone, Copy, PartialEq, Eq, Debug)]
 pub struct Entries<'a, T: Field<N>, const N: usize> {
     chunks: &'a [[u8; N]],

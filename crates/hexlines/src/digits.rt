@@ -21,6 +21,7 @@ pub fn number_of(character: u8) -> u8
     }
 }
 
+// char::from_digit would give an Option of a char, to be made a byte again.
 fn digit_of(number: u8) -> u8
     requires { number < 16 }
     ensures { result ≡ digit number }

@@ -6,14 +6,12 @@ ghost use Rattle.lists.specs.FixedList.{Pushes, AddsAll};
 use std::alloc::AllocError;
 use std::marker::Model;
 
+#[derive(Copy)]
 pub struct FixedList<T, const N: usize> {
     places: [T; N],
     len: usize,
     ghost fits: { len ≤ N },
 }
-
-// by hand, since no derive makes a copy of what has a ghost field
-impl<T: Copy, const N: usize> Copy for FixedList<T, N> {}
 
 impl<T, const N: usize> Model for FixedList<T, N> {
     ghost use Rattle.std.specs.Prelude.{◌≡◌, ◌≤◌, ◌++◌, length, take, drop};

@@ -1,4 +1,4 @@
--- What a store answers, by the list of its values and its room, the number of writes that it will surely still take.
+-- What a store answers, by the list of its values and its room, the number of writes that it will surely still take: two arguments, as a store states them by two members.
 use Rattle.std.specs.Prelude.{◌≡◌, ℕ, ◌+◌, ◌<◌, ◌≤◌, List, length, Some, Result, MatchResult, slice_get, slice_set}
 use Rattle.refusals.specs.declared.Reason.TheVariants.{NoSuchItem, NoRoom}
 use Rattle.refusals.specs.declared.Refusal.{Refusal}

@@ -25,6 +25,7 @@ impl<'a, V: Value> Table<'a, V> {
 impl<'a, V: Value> Store for Table<'a, V> {
     type Value = V;
 
+    // the way from row forms is handed on: with no ghost field, no kind comes with the type
     ghost values = { table_values V.Value.unrowed };
 
     ghost space = { λ _. 65535 };
@@ -44,6 +45,7 @@ impl<'a, V: Value> Store for Table<'a, V> {
         Ok(V::from_row(*row))
     }
 
+    // the trait's clauses stand here again, since clauses of an impl's own replace them
     fn write(&mut self, item: usize, value: V) -> Result<(), Refusal>
         ensures answer { WriteOf (table_values V.Value.unrowed self.old) 65535 item value result (table_values V.Value.unrowed self.new) 65535 }
         ensures loans { table_loans self.new ≡ table_loans self.old }

@@ -99,6 +99,7 @@ impl<'a, V: Value> Store for Tape<'a, V> {
         Ok(V::from_row(entry.value))
     }
 
+    // the trait's clauses stand here again, since clauses of an impl's own replace them
     fn write(&mut self, item: usize, value: V) -> Result<(), Refusal>
         ensures answer { WriteOf (tape_values self.old) (unused self.old) item value result (tape_values self.new) (unused self.new) }
         ensures loans { tape_loans self.new ≡ tape_loans self.old }

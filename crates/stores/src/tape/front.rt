@@ -8,6 +8,7 @@ use refusals::{Reason, Refusal};
 // A room is at most this, so a tape need not be longer.
 const LONGEST_ROW: usize = 65_535;
 
+// A for, since over position the proof is ten times as long.
 fn first_wrong<R>(row: &[Entry<R>], n: usize) -> Option<usize>
     requires { n ≤ length row.now }
     ensures { MatchOption result (Begins n row.now) (FirstWrong n row.now) }
