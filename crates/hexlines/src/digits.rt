@@ -3,14 +3,14 @@ ghost use Rattle.std.specs.Prelude.{◌≡◌, ◌<◌, ◌↔◌, All, IsTrue};
 ghost use Rattle.hexlines.specs.Hex.{Digit, byte_digits, digit};
 
 #[tactic(auto, using(crate::proofs::Spelling::digit_ranges))]
-pub fn is_digit(character: u8) -> bool
+pub(crate) fn is_digit(character: u8) -> bool
     ensures { IsTrue result ↔ Digit character }
 {
     matches!(character, b'0'..=b'9' | b'a'..=b'f')
 }
 
 // The number that a digit stands for; char::to_digit takes upper case too.
-pub fn number_of(character: u8) -> u8
+fn number_of(character: u8) -> u8
     requires { Digit character }
     ensures small { result < 16 }
     ensures value { character ≡ digit result }
@@ -32,14 +32,14 @@ fn digit_of(number: u8) -> u8
     }
 }
 
-pub fn digits_of(byte: u8) -> [u8; 2]
+pub(crate) fn digits_of(byte: u8) -> [u8; 2]
     ensures { result ≡ byte_digits byte }
 {
     [digit_of(byte / 16), digit_of(byte % 16)]
 }
 
 // The byte that two digits spell.
-pub fn byte_of(digits: [u8; 2]) -> u8
+pub(crate) fn byte_of(digits: [u8; 2]) -> u8
     requires { All Digit digits }
     ensures { byte_digits result ≡ digits }
 {
