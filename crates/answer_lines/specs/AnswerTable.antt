@@ -1,4 +1,4 @@
--- The table of answers that are written: the number of each kind, its fields in their order and widths, and the codes that stand in them.
+-- The table of answers that are written: the kind of each, its fields in their order and widths, and the codes that stand in them.
 use Rattle.std.specs.Prelude.{ℕ, ◌^◌, ◌<◌, min, All, List, [], ◌∷◌, ◌++◌, length, ℤ}
 use Rattle.std.specs.Int.{w16, w32, to_be_bytes}
 use Rattle.std.specs.List.{flat_map}

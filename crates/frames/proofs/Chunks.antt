@@ -1,16 +1,21 @@
--- The entries of a list: that they spell its bytes again, and fit.
-use Rattle.std.proofs.Common.{◌≡◌, ◌≢◌, ℕ, Ok, Err, Result, MatchResult, length-append, zero, suc, ◌*◌, ◌^◌, ◌%◌, ◌<◌, ◌≤◌, All, Bool, false, List, [], ◌∷◌, Some, None, length, map, nat_lt, get_or, position, slice_index, ℤ, sym, refl, ap, ◌∙◌, arith, w32}
+-- The entries of a list: how its bytes are cut into them, that they spell its bytes again, and fit.
+use Rattle.std.proofs.Common.{◌≡◌, ◌≢◌, ℕ, Ok, Err, Result, MatchResult, length-append, zero, suc, ◌*◌, ◌^◌, ◌%◌, ◌<◌, ◌≤◌, All, Bool, false, List, [], ◌∷◌, Some, None, length, map, nat_lt, get_or, position, slice_index, ℤ, sym, refl, ap, ◌∙◌, arith, w32, take, drop}
 use Rattle.std.specs.Int.{from_be_bytes}
 use Rattle.std.specs.List.{flat_map}
 use Rattle.std.proofs.lemmas.Bool.{ltb-false, ltb-true}
 use Rattle.std.proofs.lemmas.Grind.{common_steps}
 use Rattle.std.proofs.lemmas.Int.{of_z-to_z}
-use Rattle.std.proofs.lemmas.List.Elements.{All-head, All-map, All-tail, All-weaker}
+use Rattle.std.proofs.lemmas.List.Elements.{All-head, All-map, All-tail, All-weaker, All-cons, All-nil}
 use Rattle.std.proofs.lemmas.List.Quantifiers.{position-Some}
 use Rattle.std.proofs.lemmas.List.Sums.{fails_before_first}
 use Rattle.std.proofs.lemmas.Nat.{be_bytes_4}
+use Rattle.std.specs.Simd.{first_chunks}
+use Rattle.std.proofs.lemmas.List.{length-drop, length-take-le}
+use Rattle.std.proofs.lemmas.Option.{slice_get-map, slice_get_read}
 use Rattle.values.specs.Bytes.{bytes_of_number, number_of_bytes, Signed32}
 use Rattle.calls.specs.declared.access.Access.{Access}
+use Rattle.hexlines.specs.Hex.{Bytes}
+use Rattle.hexlines.proofs.Bytes.{Bytes-drop, Bytes-take}
 use Rattle.frames.specs.declared.entries.Entries.{Entries}
 use Rattle.frames.specs.declared.malformed.Malformed.{Malformed}
 use Rattle.frames.specs.declared.malformed.Malformed.TheVariants.{Length, BadMode}
@@ -18,6 +23,18 @@ use Rattle.frames.specs.Table.{access_bytes, mode_code}
 use Rattle.frames.specs.Fields.{access_in, mode_of}
 use Rattle.frames.specs.Entries.{IsChunk, IsEntriesOf}
 use Rattle.frames.specs.Borrowed.{AccessesIn, ValuesIn}
+
+-- bytes cut n by n are chunks
+pub chunks-are : (n k : ℕ) (bytes : List ℕ) → Bytes bytes → k * n ≤ length bytes → All (IsChunk n) (first_chunks n k bytes)
+chunks-are n zero bytes small long = All-nil (IsChunk n)
+chunks-are n (suc k) bytes small long =
+    let first : n ≤ length bytes = omega arith in
+    let rest : k * n ≤ length (drop n bytes) = omega (arith, length-drop n bytes) in
+    let chunk : IsChunk n (take n bytes) = record { long = length-take-le n bytes first; small = Bytes-take n bytes small } in
+    All-cons (IsChunk n) (take n bytes) (first_chunks n k (drop n bytes)) chunk (chunks-are n k (drop n bytes) (Bytes-drop n bytes small) rest)
+
+-- an element of a mapped list is made of the list's
+pub ruleset mapped_element = (slice_get-map, slice_get_read)
 
 -- where each chunk is the bytes of the value that it spells, these bytes are the chunks joined
 module _ {T : Type 0} (value_of : List ℕ → T) (bytes_of : T → List ℕ) where

@@ -1,4 +1,3 @@
-mod Fields
 mod Chunks
 mod Frames
 mod Table

@@ -42,7 +42,7 @@ impl<'a, T: Field<N>, const N: usize> Entries<'a, T, N> {
         self.chunks.len()
     }
 
-    #[tactic(auto, using(crate::proofs::Fields::mapped_element))]
+    #[tactic(auto, using(crate::proofs::Chunks::mapped_element))]
     pub fn get(&self, i: usize) -> Option<T>
         ensures { result ≡ slice_get (entries_of T.value_of self.now) i }
     {

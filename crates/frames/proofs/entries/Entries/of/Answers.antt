@@ -2,7 +2,7 @@ use Rattle.std.proofs.Common.{rules, ◌≡◌, ◌*◌, ◌/◌, ◌≤◌, len
 use Rattle.std.proofs.lemmas.Nat.{div-add-mod'}
 use Rattle.std.proofs.lemmas.List.{take_all}
 use Rattle.hexlines.proofs.Chunks.{flat_map-first_chunks}
-use Rattle.frames.proofs.Fields.{chunks-are}
+use Rattle.frames.proofs.Chunks.{chunks-are}
 use Rattle.frames.proofs.entries.Entries.of.Goals as goal
 
 pub returns : goal.returns
