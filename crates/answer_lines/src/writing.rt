@@ -2,6 +2,7 @@
 ghost use Rattle.std.specs.Prelude.{◌≡◌, ◌^◌, ◌<◌, ◌≤◌, All, ◌∷◌, length};
 ghost use Rattle.std.specs.Int.{w16, to_be_bytes};
 ghost use Rattle.std.specs.List.{flat_map};
+ghost use Rattle.lists.specs.FixedList.{held};
 ghost use Rattle.calls.specs.Answers.{says, asked as asked_answer, finished as finished_answer, granted as granted_answer, refused as refused_answer, settled as settled_answer};
 ghost use Rattle.answer_lines.specs.AnswerTable.{written_place};
 ghost use Rattle.answer_lines.specs.Kinds.{kind_number};
@@ -19,14 +20,14 @@ use values::bytes_of_number;
 
 // A transaction's number or serial place behind the byte of a kind.
 fn numbered(kind: AnswerKind, number: u16) -> LineBytes
-    ensures { result.items ≡ kind_number kind ∷ to_be_bytes w16 number }
+    ensures { held result ≡ kind_number kind ∷ to_be_bytes w16 number }
 {
     let [a, b] = number.to_be_bytes();
     FixedList::of(&[kind as u8, a, b], 0)
 }
 
 fn asked(asked: Asked) -> LineBytes
-    ensures { Spelled (asked_answer asked) result.items }
+    ensures { Spelled (asked_answer asked) (held result) }
 {
     let [a, b, c, d] = asked_timestamp(asked).to_be_bytes();
     let code = asked_code(asked);
@@ -34,14 +35,14 @@ fn asked(asked: Asked) -> LineBytes
 }
 
 fn settled(timestamp: u32) -> LineBytes
-    ensures { Spelled (settled_answer timestamp) result.items }
+    ensures { Spelled (settled_answer timestamp) (held result) }
 {
     let [a, b, c, d] = timestamp.to_be_bytes();
     FixedList::of(&[AnswerKind::Settled as u8, a, b, c, d], 0)
 }
 
 fn granted(granted: Granted<i32>) -> LineBytes
-    ensures { Spelled (granted_answer granted.number granted.lock granted.schedule granted.value) result.items }
+    ensures { Spelled (granted_answer granted.number granted.lock granted.schedule granted.value) (held result) }
 {
     let [a, b] = granted.number.to_be_bytes();
     let lock = lock_code(granted.lock);
@@ -52,7 +53,7 @@ fn granted(granted: Granted<i32>) -> LineBytes
 }
 
 fn finished(finished: Finished) -> LineBytes
-    ensures { Spelled (finished_answer finished) result.items }
+    ensures { Spelled (finished_answer finished) (held result) }
 {
     let [a, b] = finished_serial(finished).to_be_bytes();
     let code = finished_code(finished);
@@ -67,7 +68,7 @@ fn written_place(place: usize) -> u16
 }
 
 fn refused(refusal: Refusal) -> LineBytes
-    ensures { Spelled (refused_answer refusal) result.items }
+    ensures { Spelled (refused_answer refusal) (held result) }
 {
     let layer = refusal.reason.layer().number();
     let number = refusal.reason.number();
@@ -78,7 +79,7 @@ fn refused(refusal: Refusal) -> LineBytes
 // A list of transactions behind the byte of its kind: how many, and their numbers.
 fn listed(kind: AnswerKind, numbers: &[u16]) -> LineBytes
     requires { length numbers.now ≤ 16 }
-    ensures value { result.items ≡ kind_number kind ∷ length numbers.now ∷ flat_map (to_be_bytes w16) numbers.now }
+    ensures value { held result ≡ kind_number kind ∷ length numbers.now ∷ flat_map (to_be_bytes w16) numbers.now }
     ensures small { All (λ n. n < 2 ^ 16) numbers.now }
 {
     // no u8::try_from: its error could never come
@@ -90,7 +91,7 @@ fn listed(kind: AnswerKind, numbers: &[u16]) -> LineBytes
 }
 
 fn answer_bytes(reply: &Reply<i32>) -> LineBytes
-    ensures { Spelled (says reply.now) result.items }
+    ensures { Spelled (says reply.now) (held result) }
 {
     match *reply {
         Ok(Answer::Begun(number)) => numbered(AnswerKind::Begun, number),
@@ -108,7 +109,7 @@ fn answer_bytes(reply: &Reply<i32>) -> LineBytes
 
 // The line that is printed for what a call comes to, without its line feed.
 pub fn write_answer(reply: &Reply<i32>) -> FixedList<u8, LINE_CHARACTERS>
-    ensures { Written (says reply.now) result.items }
+    ensures { Written (says reply.now) (held result) }
 {
     encode(&answer_bytes(reply))
 }

@@ -1,6 +1,7 @@
 -- What an answer says, over any kind of value: lists of numbers as lists.
 use Rattle.std.specs.Prelude.{List, ℕ, Ok, Err, Result}
 use Rattle.refusals.specs.declared.Refusal.{Refusal}
+use Rattle.lists.specs.FixedList.{held}
 use Rattle.calls.specs.declared.answer.Answer.{Answer}
 use Rattle.calls.specs.declared.answer.Answer.TheVariants.{Begun, Asked, Settled, Granted, Finished, Cleared, Abandoned, Ring, Owing}
 use Rattle.calls.specs.declared.granted.GrantedLock.{GrantedLock}
@@ -30,6 +31,6 @@ says (Ok (Granted g)) = granted g.number g.lock g.schedule g.value
 says (Ok (Finished f)) = finished f
 says (Ok (Cleared serial)) = cleared serial
 says (Ok Abandoned) = abandoned
-says (Ok (Ring numbers)) = ring_listed numbers.items
-says (Ok (Owing numbers)) = owing_listed numbers.items
+says (Ok (Ring numbers)) = ring_listed (held numbers)
+says (Ok (Owing numbers)) = owing_listed (held numbers)
 says (Err refusal) = refused refusal

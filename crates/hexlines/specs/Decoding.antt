@@ -3,7 +3,8 @@ use Rattle.std.specs.Prelude.{◌≡◌, ◌≢◌, ℕ, ◌%◌, ◌<◌, ◌�
 use Rattle.refusals.specs.declared.Refusal.{Refusal}
 use Rattle.refusals.specs.declared.Reason.TheVariants.{LineTooLong, NotHexadecimal}
 use Rattle.refusals.specs.Numbers.{refusal_at}
-use Rattle.lists.specs.FixedList.{FixedList}
+use Rattle.lists.specs.declared.fixed.FixedList.{FixedList}
+use Rattle.lists.specs.FixedList.{held}
 use Rattle.hexlines.specs.Hex.{hex, Digit, Bytes}
 
 -- the first character that is no digit stands at i
@@ -20,10 +21,10 @@ pub data Undecoded (line : List ℕ) (e : Refusal) : Type 0 where
 
 -- what decoding a line makes: the bytes that it spells, or why it spells none
 abbrev pub DecodeOf : List ℕ → Result (FixedList ℕ 70) Refusal → Type 0
-DecodeOf line (Ok decoded) = (length line ≤ 140) × (line ≡ hex decoded.items) × Bytes decoded.items
+DecodeOf line (Ok decoded) = (length line ≤ 140) × (line ≡ hex (held decoded)) × Bytes (held decoded)
 DecodeOf line (Err e) = Undecoded line e
 
 -- a line that spells bytes is decoded into just these
 abbrev pub Back : List ℕ → Result (FixedList ℕ 70) Refusal → Type 0
-Back line (Ok decoded) = (bytes : List ℕ) → Bytes bytes → line ≡ hex bytes → decoded.items ≡ bytes
+Back line (Ok decoded) = (bytes : List ℕ) → Bytes bytes → line ≡ hex bytes → held decoded ≡ bytes
 Back line (Err e) = (bytes : List ℕ) → Bytes bytes → length bytes ≤ 70 → line ≢ hex bytes

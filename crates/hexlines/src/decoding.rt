@@ -2,6 +2,7 @@
 ghost use Rattle.std.specs.Prelude.{◌≡◌, ◌≤◌, All, MatchOption, flat_map, length};
 ghost use Rattle.hexlines.specs.Decoding.{Back, DecodeOf, FirstOther};
 ghost use Rattle.hexlines.specs.Hex.{Bytes, Digit, hex};
+ghost use Rattle.lists.specs.FixedList.{held};
 
 use crate::digits::{byte_of, is_digit};
 use crate::limits::{LINE_BYTES, LINE_CHARACTERS};
@@ -22,8 +23,8 @@ fn first_other(line: &[u8]) -> Option<usize>
 fn bytes_of(pairs: &[[u8; 2]]) -> LineBytes
     requires short { length pairs.now ≤ LINE_BYTES }
     requires digits { All (All Digit) pairs.now }
-    ensures value { hex result.items ≡ flat_map (λ pair. pair) pairs.now }
-    ensures bytes { Bytes result.items }
+    ensures value { hex (held result) ≡ flat_map (λ pair. pair) pairs.now }
+    ensures bytes { Bytes (held result) }
 {
     let mut bytes = FixedList::new(0);
     for pair in pairs {

@@ -1,6 +1,7 @@
 // Bytes encoded as a line.
 ghost use Rattle.std.specs.Prelude.{◌≡◌};
 ghost use Rattle.hexlines.specs.Hex.{hex};
+ghost use Rattle.lists.specs.FixedList.{held};
 
 use crate::decoding::LineBytes;
 use crate::digits::digits_of;
@@ -8,7 +9,7 @@ use crate::limits::LINE_CHARACTERS;
 use lists::FixedList;
 
 pub fn encode(bytes: &LineBytes) -> FixedList<u8, LINE_CHARACTERS>
-    ensures { result.items ≡ hex bytes.now.items }
+    ensures { held result ≡ hex (held bytes.now) }
 {
     let mut line = FixedList::new(b'0');
     for byte in bytes.as_slice() {

@@ -1,4 +1,5 @@
 use Rattle.std.proofs.Common.{◌≡◌, length, sym, ap, ◌∙◌, arith}
+use Rattle.lists.specs.FixedList.{held}
 use Rattle.hexlines.specs.Hex.{hex}
 use Rattle.hexlines.proofs.Spelling.{digits_from_hex, length-hex, same_from_hex}
 use Rattle.calls.specs.Answers.{says}
@@ -10,7 +11,7 @@ pub returns : goal.returns
 returns c =
     let answer = says c.args.reply.now in
     let spelt = c.answer_bytes.ensures in
-    let spelled : c.encode.result.items ≡ hex (answer_bytes answer) = c.encode.ensures ∙ ap hex spelt.value in
+    let spelled : held c.encode.result ≡ hex (answer_bytes answer) = c.encode.ensures ∙ ap hex spelt.value in
     let small = bytes_of_answer answer spelt.fits in
     record {
       spelled = spelled;
