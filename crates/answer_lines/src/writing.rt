@@ -85,7 +85,10 @@ fn listed(kind: AnswerKind, numbers: &[u16]) -> LineBytes
     // no u8::try_from: its error could never come
     let mut bytes = FixedList::of(&[kind as u8, numbers.len() as u8], 0);
     for number in numbers {
-        bytes.extend(&number.to_be_bytes());
+        // two pushes cost less than a copy of two bytes
+        let [high, low] = number.to_be_bytes();
+        let _ = bytes.push(high);
+        let _ = bytes.push(low);
     }
     bytes
 }

@@ -13,7 +13,10 @@ pub fn encode(bytes: &LineBytes) -> FixedList<u8, LINE_CHARACTERS>
 {
     let mut line = FixedList::new(b'0');
     for byte in bytes.as_slice() {
-        line.extend(&digits_of(*byte));
+        // two pushes cost less than a copy of two bytes
+        let [high, low] = digits_of(*byte);
+        let _ = line.push(high);
+        let _ = line.push(low);
     }
     line
 }
