@@ -1,13 +1,12 @@
 -- What stands at an item after entries were written over the opening values: the newest entry's value, or the opening one.
-use Rattle.std.proofs.Common.{◌≡◌, ℕ, ◌+◌, ◌<◌, cond, List, [], ◌∷◌, Option, Some, Bor, length, take, drop, set, refl, ◌∙◌, arith, length-drop, length-set}
+use Rattle.std.proofs.Common.{◌≡◌, ℕ, ◌+◌, ◌<◌, min, cond, List, [], ◌∷◌, Option, Some, Bor, length, take, drop, set, refl, ◌∙◌, arith, length-drop, length-set}
 use Rattle.std.specs.Prelude.{◌==◌, find, reverse, slice_get, unwrap_or}
 use Rattle.std.specs.Option.{option_copied, option_map_or}
 use Rattle.std.proofs.lemmas.Bool.Decides.{nat_tests}
 use Rattle.std.proofs.lemmas.Grind.{common_steps, fold-append, reverse_onto}
-use Rattle.std.proofs.lemmas.List.{length-map, length-take-le, take-set-le, drop-set-add, take_more_set}
+use Rattle.std.proofs.lemmas.List.{length-map, length-take, take-set-le, drop-set-add, take_more_set}
 use Rattle.std.proofs.lemmas.List.Folds.{find-append}
 use Rattle.std.proofs.lemmas.Option.{gets, slice_get-map}
-use Rattle.values.specs.declared.value.Value.{Ghosts}
 use Rattle.stores.specs.declared.tape.Tape.{Tape}
 use Rattle.stores.specs.declared.tape.entry.Entry.{Entry}
 use Rattle.stores.specs.Tapes.{entry_values, written, tape_values}
@@ -42,9 +41,8 @@ module _ {R V : Type 0} (f : R → V) where
       ≡ set (written f (entry_values f (take n row)) (take count (drop n row))) e.item (f e.value)
   written_push row n count e free = grind (arith, take-set-le n row (n + count) e, drop-set-add, take_more_set, fold-append, length-drop)
 
-module _ {V R : Type 0} {kind : Ghosts V R} where
   -- a tape has an item for each of its opening entries
-  pub length-tape_values : (t : Tape V R kind) → length (tape_values t) ≡ t.n
-  length-tape_values t = grind (arith, length-written, length-map, length-take-le)
+  pub length-tape_values : (t : Tape V R) → length (tape_values f t) ≡ min t.n (length t.row.now)
+  length-tape_values t = grind (arith, length-written, length-map, length-take)
 
-  pub ruleset tape_lengths = (length-tape_values)
+pub ruleset tape_lengths = (length-tape_values)

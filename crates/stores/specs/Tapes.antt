@@ -1,10 +1,9 @@
 -- What a tape holds, by its row of entries: the first n are the opening values of items 0 to n - 1, and the entries behind them were written later, oldest first.
-use Rattle.std.specs.Prelude.{◌≡◌, ℕ, ◌+◌, ◌-◌, ◌<◌, ◌≤◌, ◌≢◌, List, [], ◌∷◌, map, fold, length, take, drop, Result, MatchResult, slice_set}
+use Rattle.std.specs.Prelude.{◌≡◌, ℕ, ◌+◌, ◌-◌, ◌<◌, ◌≤◌, ◌≢◌, min, List, [], ◌∷◌, map, fold, length, take, drop, Result, MatchResult, slice_set}
 use Rattle.std.specs.Borrow.{GName}
 use Rattle.std.specs.List.{HoldsAt}
 use Rattle.refusals.specs.declared.Reason.TheVariants.{BadTapeRow}
 use Rattle.refusals.specs.declared.Refusal.{Refusal}
-use Rattle.values.specs.declared.value.Value.{Ghosts}
 use Rattle.stores.specs.declared.tape.Tape.{Tape}
 use Rattle.stores.specs.declared.tape.entry.Entry.{Entry}
 
@@ -41,41 +40,40 @@ module _ {R : Type 0} where
     abbrev pub written : List V → List (Entry R) → List V
     written = fold (λ values e. slice_set values e.item (value_of e.value))
 
--- `kind` says how the values are read from their row forms
-module _ {V R : Type 0} {kind : Ghosts V R} where
-  -- the value of each item of a tape
-  abbrev pub tape_values : Tape V R kind → List V
-  tape_values t = written kind.unrowed (entry_values kind.unrowed (take t.n t.row.now)) (take t.count (drop t.n t.row.now))
+    -- the value of each item of a tape
+    abbrev pub tape_values : Tape V R → List V
+    tape_values t = written (entry_values (take t.n t.row.now)) (take t.count (drop t.n t.row.now))
 
+module _ {V R : Type 0} where
   -- the entries of a tape that are not used yet
-  abbrev pub unused : Tape V R kind → ℕ
-  unused t = length t.row.now - t.n - t.count
+  abbrev pub unused : Tape V R → ℕ
+  unused t = min (length t.row.now - t.n - t.count) 65535
 
   -- the row that a tape has on loan
-  abbrev pub tape_loans : Tape V R kind → List GName
+  abbrev pub tape_loans : Tape V R → List GName
   tape_loans t = t.row.ghost_name ∷ []
 
   -- a tape of n items, just opened over a row
-  pub record Opened (n : ℕ) (row : List (Entry R)) (t : Tape V R kind) : Type 0 where
+  pub record Opened (value_of : R → V) (n : ℕ) (row : List (Entry R)) (t : Tape V R) : Type 0 where
     pub opens : Opens n row
     pub items : t.n ≡ n
     pub count : t.count ≡ 0
-    pub values : tape_values t ≡ entry_values kind.unrowed (take n row)
+    pub values : tape_values value_of t ≡ entry_values value_of (take n row)
     pub room : unused t ≡ length row - n
     pub same : t.row.now ≡ row
 
   -- an entry added behind the others
-  pub record Appended (t : Tape V R kind) (e : Entry R) (t' : Tape V R kind) : Type 0 where
+  pub record Appended (t : Tape V R) (e : Entry R) (t' : Tape V R) : Type 0 where
     pub row : t'.row.now ≡ slice_set t.row.now (t.n + t.count) e
     pub items : t'.n ≡ t.n
     pub count : t'.count ≡ t.count + 1
 
   -- no entry added
-  pub record Unappended (t t' : Tape V R kind) : Type 0 where
+  pub record Unappended (t t' : Tape V R) : Type 0 where
     pub row : t'.row.now ≡ t.row.now
     pub items : t'.n ≡ t.n
     pub count : t'.count ≡ t.count
 
   -- a served write adds an entry, and a refused one adds none
-  abbrev pub Recorded : Tape V R kind → ℕ → R → Result (Unit {0}) Refusal → Tape V R kind → Type 0
+  abbrev pub Recorded : Tape V R → ℕ → R → Result (Unit {0}) Refusal → Tape V R → Type 0
   Recorded t i x result t' = MatchResult result (λ _. Appended t (record { item = i; value = x }) t') (λ _. Unappended t t')

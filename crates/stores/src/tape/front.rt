@@ -6,7 +6,7 @@ use crate::tape::entry::Entry;
 use refusals::{Reason, Refusal};
 
 // A room is at most this, so a tape need not be longer.
-const LONGEST_ROW: usize = 65_535;
+pub(super) const LONGEST_ROW: usize = 65_535;
 
 // A for, since over position the proof is ten times as long.
 fn first_wrong<R>(row: &[Entry<R>], n: usize) -> Option<usize>
