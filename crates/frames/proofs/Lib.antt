@@ -1,4 +1,4 @@
 mod Chunks
 mod Frames
-mod Table
+pub mod Table
 mod Back

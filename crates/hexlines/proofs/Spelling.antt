@@ -4,7 +4,7 @@ use Rattle.std.proofs.lemmas.List.Elements.{All-cons, All-nil}
 use Rattle.std.proofs.lemmas.Bool.Decides.{nat_tests}
 use Rattle.hexlines.specs.Hex.{digit, hex, Digit, Bytes}
 
-same_from_digit : (m n : ℕ) → m < 16 → n < 16 → digit m ≡ digit n → m ≡ n
+pub same_from_digit : (m n : ℕ) → m < 16 → n < 16 → digit m ≡ digit n → m ≡ n
 same_from_digit m n h k e = grind (arith, nat_tests)
 
 pub length-hex : (bytes : List ℕ) → length (hex bytes) ≡ 2 * length bytes

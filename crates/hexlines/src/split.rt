@@ -74,7 +74,7 @@ impl<'a> Iterator for Lines<'a> {
 // The part of an input that is read.
 #[tactic(auto, using(std::proofs::lemmas::List::take_min))]
 pub fn readable(input: &[u8]) -> &[u8]
-    ensures { result.now ≡ take INPUT_BYTES input.now }
+    ensures { result.now ≡ take 65536 input.now }
 {
     &input[..INPUT_BYTES.min(input.len())]
 }

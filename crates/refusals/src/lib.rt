@@ -10,16 +10,21 @@ use std::fmt;
 
 #[derive(Clone, Copy, PartialEq, Eq, Debug)]
 pub enum Layer {
-    Reader = 1,
-    Board = 2,
-    Store = 3,
+    Reader,
+    Board,
+    Store,
 }
 
 impl Layer {
+    // no discriminants: a cast of a layer is its place among the three, and one of a reason its place among the reasons
     pub fn number(self) -> u8
         ensures { result ≡ layer_number self }
     {
-        self as u8
+        match self {
+            Layer::Reader => 1,
+            Layer::Board => 2,
+            Layer::Store => 3,
+        }
     }
 }
 
@@ -27,21 +32,21 @@ impl Layer {
 #[derive(Clone, Copy, PartialEq, Eq, Debug)]
 pub enum Reason {
     // the store has no such item; the place is the item
-    NoSuchItem = 20,
+    NoSuchItem,
     // the store will not surely take another write; the place is 0
-    NoRoom = 21,
+    NoRoom,
     // the row lent to a tape is too short, too long (place 0), or has another item at its front (the place of the first such entry)
-    BadTapeRow = 22,
+    BadTapeRow,
     // the line has more than 140 characters; the place is 140
-    LineTooLong = 30,
+    LineTooLong,
     // a character is not one of 0 to 9 and a to f (the place is its index), or there are oddly many (the place is how many)
-    NotHexadecimal = 31,
+    NotHexadecimal,
     // no frame begins with this byte, or the line is empty; the place is 0
-    UnknownKind = 32,
+    UnknownKind,
     // no frame of its kind has that many bytes; the place is how many
-    WrongLength = 33,
+    WrongLength,
     // the mode of an access is neither 00 nor 01; the place is the index of that byte
-    BadMode = 34,
+    BadMode,
 }
 
 impl Reason {
@@ -61,7 +66,16 @@ impl Reason {
     pub fn number(self) -> u8
         ensures { result ≡ reason_number self }
     {
-        self as u8
+        match self {
+            Reason::NoSuchItem => 20,
+            Reason::NoRoom => 21,
+            Reason::BadTapeRow => 22,
+            Reason::LineTooLong => 30,
+            Reason::NotHexadecimal => 31,
+            Reason::UnknownKind => 32,
+            Reason::WrongLength => 33,
+            Reason::BadMode => 34,
+        }
     }
 
     pub fn at(self, place: usize) -> Refusal
