@@ -70,3 +70,19 @@ fn refusals_are_answers(rt: HostRuntime) {
     // a place that two bytes do not hold is cut
     written(&rt, Err(Reason::NoSuchItem.at(70_000)), b"000314ffff");
 }
+
+// no caller could use an answer twice, if a list had a model
+fn is_ring(answer: Answer<i32>) -> bool {
+    match answer {
+        Answer::Ring(_) => true,
+        _ => false,
+    }
+}
+
+#[test]
+fn an_answer_is_used_twice(rt: HostRuntime) {
+    let answer = Answer::Ring(FixedList::of(&[1, 2], 0));
+    assert!(rt; is_ring(answer));
+    written(&rt, Ok(answer), b"880200010002");
+    written(&rt, Ok(answer), b"880200010002");
+}

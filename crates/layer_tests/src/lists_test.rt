@@ -19,3 +19,25 @@ fn a_list_takes_as_many_as_it_has_places_for(rt: HostRuntime) {
     let none: FixedList<u8, 0> = FixedList::of(&[1], 0);
     assert_eq!(rt; none.len(), 0);
 }
+
+#[derive(Clone, Copy)]
+struct Labelled<'a> {
+    label: &'a str,
+    list: FixedList<u8, 2>,
+}
+
+// no caller could, if a list had a model
+fn len_of(labelled: Labelled<'_>) -> usize {
+    labelled.list.len()
+}
+
+#[test]
+fn what_holds_a_list_is_used_twice(rt: HostRuntime) {
+    let labelled = Labelled {
+        label: "orbit",
+        list: FixedList::of(&[7], 0),
+    };
+    assert_eq!(rt; len_of(labelled), 1);
+    assert_eq!(rt; len_of(labelled), 1);
+    assert_eq!(rt; labelled.label, "orbit");
+}

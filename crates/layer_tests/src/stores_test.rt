@@ -42,6 +42,25 @@ fn work<S: Store<Value = i32>>(store: &mut S) -> Result<i32, Refusal> {
     Ok(old)
 }
 
+fn first_of<S: Store<Value = i32> + Drop>(store: S) -> Result<i32, Refusal> {
+    store.read(0)
+}
+
+// no caller could, if a tape had a ghost field
+fn handed_on(tape: Tape<'_, i32>) -> Result<i32, Refusal> {
+    first_of(tape)
+}
+
+#[test]
+fn a_tape_is_handed_on_by_value(rt: HostRuntime) -> Result<(), Fail> {
+    let mut row = [entry(0, 7), entry(1, 8)];
+    match Tape::<i32>::open(&mut row, 2) {
+        Ok(tape) => assert_eq!(rt; handed_on(tape), Ok(7)),
+        Err(_) => return Err(Fail::new("the row does not open")),
+    }
+    Ok(())
+}
+
 #[test]
 fn a_full_tape_loses_nothing(rt: HostRuntime) -> Result<(), Fail> {
     let mut row = [entry(0, 7), entry(1, 8), entry(0, 0), entry(0, 0)];
