@@ -23,11 +23,6 @@ Bytes-flat_map f [] each = Bytes-nil
 Bytes-flat_map f (x ∷ xs) each =
     Bytes-append (f x) (flat_map f xs) (All-head (λ y. Bytes (f y)) x xs each) (Bytes-flat_map f xs (All-tail (λ y. Bytes (f y)) x xs each))
 
--- each below 256, in std's word for all
-pub bytes_from_all : (bytes : List ℕ) → All (λ b. b < 256) bytes → Bytes bytes
-bytes_from_all [] small = Bytes-nil
-bytes_from_all (b ∷ bytes) small = Bytes-cons b bytes (All-head (λ x. x < 256) b bytes small) (bytes_from_all bytes (All-tail (λ x. x < 256) b bytes small))
-
 below_256 : (k n : ℕ) → byte_at k n < 256
 below_256 zero n = mod_below n 256 (omega arith)
 below_256 (suc k) n = mod_below _ 256 (omega arith)

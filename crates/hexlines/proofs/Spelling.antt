@@ -1,8 +1,9 @@
 -- Laws of hexadecimal: how long a line is, that its characters are digits, and that it spells no other bytes.
 use Rattle.std.proofs.Common.{◌≡◌, ℕ, suc, ◌-◌, ◌≤◌, rules, ◌*◌, ◌/◌, ◌%◌, ◌<◌, List, [], ◌∷◌, length, refl, ap, arith, All}
-use Rattle.std.proofs.lemmas.List.Elements.{All-cons, All-nil}
+use Rattle.std.proofs.lemmas.List.Elements.{All-cons, All-head, All-nil, All-tail}
 use Rattle.std.proofs.lemmas.Bool.Decides.{nat_tests}
 use Rattle.hexlines.specs.Hex.{digit, hex, Digit, Bytes}
+use Rattle.hexlines.proofs.Bytes.{Bytes-cons, Bytes-nil}
 
 pub same_from_digit : (m n : ℕ) → m < 16 → n < 16 → digit m ≡ digit n → m ≡ n
 same_from_digit m n h k e = grind (arith, nat_tests)
@@ -44,3 +45,8 @@ letter_digit c low high = (c - 87, search rules, search rules)
 
 -- 0 to 9 and a to f are digits
 pub ruleset digit_ranges = (decimal_digit, letter_digit)
+
+-- each below 256, in std's word for all
+pub bytes_from_all : (bytes : List ℕ) → All (λ b. b < 256) bytes → Bytes bytes
+bytes_from_all [] small = Bytes-nil
+bytes_from_all (b ∷ bytes) small = Bytes-cons b bytes (All-head (λ x. x < 256) b bytes small) (bytes_from_all bytes (All-tail (λ x. x < 256) b bytes small))

@@ -1,5 +1,5 @@
 // The tape: a lent row of entries. The first n are the opening values of items 0 to n - 1, and every write adds one behind those in use.
-// Nothing here rests on what opening checked, so the numbers may be any: a tape holds no more items than its row has entries.
+// It has no ghost field, since no caller could hand it on by value then. So nothing rests on what opening checked, and the numbers may be any: a tape holds no more items than its row has entries.
 pub mod entry;
 mod front;
 mod newest;
