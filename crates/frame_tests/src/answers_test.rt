@@ -71,7 +71,7 @@ fn refusals_are_answers(rt: HostRuntime) {
     written(&rt, Err(Reason::NoSuchItem.at(70_000)), b"000314ffff");
 }
 
-// no caller could use an answer twice, if a list had a model
+// takes an answer by value: with an `impl Model` on its list, no caller could hand one in and use it again
 fn is_ring(answer: Answer<i32>) -> bool {
     match answer {
         Answer::Ring(_) => true,

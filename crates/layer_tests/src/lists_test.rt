@@ -26,7 +26,7 @@ struct Labelled<'a> {
     list: FixedList<u8, 2>,
 }
 
-// no caller could, if a list had a model
+// takes what holds a list by value: with an `impl Model` on the list, no caller could hand it in twice
 fn len_of(labelled: Labelled<'_>) -> usize {
     labelled.list.len()
 }

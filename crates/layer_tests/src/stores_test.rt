@@ -46,7 +46,7 @@ fn first_of<S: Store<Value = i32> + Drop>(store: S) -> Result<i32, Refusal> {
     store.read(0)
 }
 
-// no caller could, if a tape had a ghost field
+// hands on by value a tape that it was given: with a ghost field in its type, no caller could
 fn handed_on(tape: Tape<'_, i32>) -> Result<i32, Refusal> {
     first_of(tape)
 }
